@@ -1,0 +1,6 @@
+pub mod Mail
+pub mod House
+pub mod Device
+pub mod Run
+pub mod Promise
+pub mod Known

@@ -1,12 +1,13 @@
 -- Laws of small letters, and of the tests that compare texts in them: each turns a test over lists into what a loop over lent bytes looks at.
 use mathlib.Core.Path.{_≡_, refl, sym, ap, _∙_}
-use mathlib.Core.Bool.{Bool, true, false, _&&_, cond, and-assoc}
-use mathlib.Core.List.{List, [], _∷_, _++_}
+use mathlib.Core.Bool.{Bool, true, false, _&&_, cond, and-assoc, false≢true}
+use mathlib.Core.List.{List, [], _∷_, _++_, append-assoc}
 use Prim.Native.Nat.{ℕ, zero, suc, _+_, _≤_, _<_}
 use native.Mathlib.Omega.{arith}
 use lib.Dec.{eqb, ltb, leb}
-use lib.ListN.{length, drop}
+use lib.ListN.{length, getD, set, take, drop}
 use borrow.Author.Tests.{ltb-true, ltb-false, leb-true, leb-false, lt-ltb, le-ltb, le-leb, lt-leb, eq-eqb, ne-eqb, eqb-true, eqb-false}
+use Rattle.std.proofs.shelf.Lists.{drop-more, drop-all, take-more, length-take-le, set-at}
 use Rattle.std.proofs.shelf.Tests.{cases-bool, cases-lt, and-right}
 use mathlib.Core.Logic.{_⊎_, inl, inr}
 use Rattle.std.specs.Text.{lower}
@@ -89,3 +90,61 @@ pub length-no-blanks : (bs : List ℕ) → length (no-blanks bs) ≤ length bs
 unfolding no-blanks
 length-no-blanks [] = omega arith
 length-no-blanks (c ∷ cs) = elim (cases-bool (eqb c 32)) [ inl e ↦ rw e (omega (arith, length-no-blanks cs)) | inr e ↦ rw e (omega arith) ]
+
+-- the front of a text, byte by byte, as a loop compares it
+pub starts-with-at : (ps ws : List ℕ) (i : ℕ) → i < length ps → i < length ws →
+    starts-with (smalls (drop i ps)) (smalls (drop i ws)) ≡ eqb (lower (getD ps i 0)) (lower (getD ws i 0)) && starts-with (smalls (drop (i + 1) ps)) (smalls (drop (i + 1) ws))
+unfolding starts-with
+starts-with-at ps ws i h k = rw (drop-more ps i 0 h, drop-more ws i 0 k, lower-small (getD ps i 0), lower-small (getD ws i 0))
+
+pub starts-with-none : (ps ws : List ℕ) (i : ℕ) → length ps ≤ i → starts-with (smalls (drop i ps)) ws ≡ true
+unfolding starts-with
+starts-with-none ps ws i h = rw (drop-all i ps h)
+
+pub starts-with-fits : (ps ws : List ℕ) → starts-with (smalls ps) (smalls ws) ≡ true → length ps ≤ length ws
+starts-with-fits ps ws e =
+    elim (cases-lt (length ws) (length ps)) [
+      inl l ↦ absurd (false≢true (sym (starts-with-short (smalls ps) (smalls ws) (rw (length-each small ps, length-each small ws) l)) ∙ e))
+    | inr l ↦ l
+    ]
+
+pub holds-here : (ps ws : List ℕ) → starts-with ps ws ≡ true → holds ps ws ≡ true
+unfolding starts-with holds
+holds-here [] [] e = refl
+holds-here (p ∷ ps) [] e = e
+holds-here ps (w ∷ ws) e = rw e
+
+-- a text that does not begin with the part: it has none of it, if it is at its end, and otherwise what its tail has
+pub holds-none : (ps ws : List ℕ) → length ws ≡ 0 → starts-with ps (smalls ws) ≡ false → holds ps (smalls ws) ≡ false
+unfolding starts-with holds
+holds-none [] [] l e = e
+holds-none (p ∷ ps) [] l e = refl
+holds-none ps (w ∷ ws) l e = absurd (omega arith)
+
+pub holds-tail : (ps ws : List ℕ) (v : ℕ) (vs : List ℕ) → ws ≡ v ∷ vs → starts-with ps (smalls ws) ≡ false → holds ps (smalls ws) ≡ holds ps (smalls vs)
+unfolding holds
+holds-tail ps ws v vs q e = rw (q, rw q at e)
+
+pub no-blanks-more : (bs : List ℕ) (i : ℕ) → i < length bs → getD bs i 0 ≡ 32 → no-blanks (drop i bs) ≡ no-blanks (drop (i + 1) bs)
+unfolding no-blanks
+no-blanks-more bs i h e = rw (drop-more bs i 0 h, e)
+
+pub no-blanks-other : (bs : List ℕ) (i : ℕ) → i < length bs → (getD bs i 0 ≡ 32 → ⊥) → no-blanks (drop i bs) ≡ drop i bs
+unfolding no-blanks
+no-blanks-other bs i h n = rw (drop-more bs i 0 h, ne-eqb (getD bs i 0) 32 n)
+
+pub each-append : {A B : Type 0} (f : A → B) (xs ys : List A) → each f (xs ++ ys) ≡ each f xs ++ each f ys
+each-append f [] ys = refl
+each-append f (x ∷ xs) ys = ap (λ l. f x ∷ l) (each-append f xs ys)
+
+-- one more byte written in small letters over the front of a row
+pub smalls-more : (bs os : List ℕ) (i : ℕ) → i < length bs → i < length os →
+    set (smalls (take i bs) ++ drop i os) i (lower (getD bs i 0)) ≡ smalls (take (i + 1) bs) ++ drop (i + 1) os
+smalls-more bs os i h k =
+    rw
+    (drop-more os i 0 k, lower-small (getD bs i 0), take-more bs i 0 h, each-append small (take i bs) (getD bs i 0 ∷ []), append-assoc)
+    (set-at (smalls (take i bs)) (getD os i 0) (drop (i + 1) os) (small (getD bs i 0)) i (length-each small (take i bs) ∙ length-take-le i bs (omega arith)))
+
+pub no-blanks-none : (bs : List ℕ) (i : ℕ) → length bs ≤ i → no-blanks (drop i bs) ≡ []
+unfolding no-blanks
+no-blanks-none bs i h = rw (drop-all i bs h)

@@ -3,6 +3,7 @@
 ghost use mathlib.Core.Path.{_≡_};
 ghost use mathlib.Core.List.{[]};
 ghost use mathlib.Core.Bool.{false};
+ghost use Prim.Native.Nat.{_≤_};
 ghost use lib.ListN.{length};
 ghost use Rattle.std.specs.Options.{Cases};
 ghost use Rattle.model.specs.Mail.{line-of, field};
@@ -12,7 +13,8 @@ use crate::text::{begins_with, without_blanks};
 
 // How many bytes stand before the first line end; all, if there is none.
 fn line_length(bytes: &[u8]) -> usize
-    ensures { λ r. ⌜ r ≡ length (line-of (now (bytes .entry))) ⌝ }
+    ensures value { λ r. ⌜ r ≡ length (line-of (now (bytes .entry))) ⌝ }
+    ensures within { λ r. ⌜ r ≤ length (now (bytes .entry)) ⌝ }
 {
     for (i, byte) in bytes.iter().enumerate() {
         if *byte == b'\n' {
@@ -38,12 +40,11 @@ fn first_line(bytes: &[u8]) -> Option<(&[u8], &[u8])>
 fn value_in<'a>(line: &'a [u8], name: &[u8]) -> Option<&'a [u8]>
     ensures { λ r. ⌜ Cases r (of-field (now (name .entry)) (now (line .entry)) ≡ false) (λ v. Line-value (now (name .entry)) (now (line .entry)) (v .now)) ⌝ }
 {
-    if !begins_with(line, name) {
-        return None;
-    }
-    match &line[name.len()..] {
-        [b':', value @ ..] => Some(without_blanks(value)),
-        _ => None,
+    let colon = name.len();
+    if begins_with(line, name) && colon < line.len() && line[colon] == b':' {
+        Some(without_blanks(&line[colon + 1..]))
+    } else {
+        None
     }
 }
 

@@ -26,7 +26,7 @@ pub fn contains(text: &[u8], part: &[u8]) -> bool
 {
     let mut rest = text;
     while !begins_with(rest, part) {
-        let [_, tail @ ..] = rest else {
+        let Some((_, tail)) = rest.split_first() else {
             return false;
         };
         rest = tail;
@@ -45,11 +45,12 @@ pub fn equals(text: &[u8], other: &[u8]) -> bool
 pub fn without_blanks(text: &[u8]) -> &[u8]
     ensures { λ r. ⌜ now r ≡ no-blanks (now (text .entry)) ⌝ }
 {
-    let mut rest = text;
-    while let [b' ', tail @ ..] = rest {
-        rest = tail;
+    for (i, byte) in text.iter().enumerate() {
+        if *byte != b' ' {
+            return &text[i..];
+        }
     }
-    rest
+    &text[text.len()..]
 }
 
 // Writes `text` in small letters to the front of `out`.

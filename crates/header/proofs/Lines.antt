@@ -138,7 +138,7 @@ line-values name bs line rest value a b l t e =
     ∙ rw (← a, ← b, e, no-blanks-smalls (drop (1 + length name) line), ← drop-each small (1 + length name) line)
 
 line-other : (name bs line rest : List ℕ) → line ≡ line-of bs → rest ≡ after-line bs → 0 < length line → of-field name line ≡ false → field name bs ≡ field name rest
-line-other name bs line rest a b l t = field-other name bs (rw a at l) (rw a at t) ∙ rw ← b
+line-other name bs line rest a b l t = field-other name bs (rw a at l) (rw a at t) ∙ ap (field name) (sym b)
 
 pub first-value-is : (name bs line rest value : List ℕ) → First-line bs line rest → Line-value name line value → First-value name bs value rest
 first-value-is name bs line rest value f v =
@@ -147,3 +147,7 @@ first-value-is name bs line rest value f v =
 -- a line of no field leaves the values to those after it
 pub other-line : (name bs line rest : List ℕ) → First-line bs line rest → of-field name line ≡ false → field name bs ≡ field name rest
 other-line name bs line rest f t = line-other name bs line rest (f .line-is) (f .rest-is) (f .some) t
+
+-- the same once lines of no field have been left behind
+pub first-value-after : (name bs left value rest : List ℕ) → field name left ≡ field name bs → length left ≤ length bs → First-value name left value rest → First-value name bs value rest
+first-value-after name bs left value rest e l v = record { values = sym e ∙ v .values; shorter = omega arith }

@@ -2,7 +2,9 @@
 // values of the plain definition for every letter, name and text; it keeps nothing and copies only the value that is asked for.
 ghost use mathlib.Core.Path.{_≡_};
 ghost use Rattle.model.specs.Mail.{any, holds, same, smalls, field};
+ghost use Rattle.std.specs.Results.{Cases};
 ghost use Rattle.header.specs.Entry.{Field-says, refusal};
+ghost use Rattle.header.specs.Refusals.{number};
 
 mod head;
 mod text;
@@ -25,6 +27,40 @@ enum Refusal {
     LetterTooLong = 1,
     NameLength = 2,
     RowTooShort = 3,
+}
+
+// The longest letter and the longest name that a field is looked for by.
+const MAX_LETTER: usize = 65_535;
+const MAX_NAME: usize = 64;
+
+// Whether the field can be looked for, and any value of it written to the row.
+fn admitted(letter: &[u8], name: &[u8], row: &[u8]) -> Result<(), Refusal>
+    ensures { λ r. ⌜ Cases r (λ _. refusal (now (letter .entry)) (now (name .entry)) (now (row .entry)) ≡ 0) (λ e. refusal (now (letter .entry)) (now (name .entry)) (now (row .entry)) ≡ number e) ⌝ }
+{
+    if letter.len() > MAX_LETTER {
+        return Err(Refusal::LetterTooLong);
+    }
+    if name.is_empty() || name.len() > MAX_NAME {
+        return Err(Refusal::NameLength);
+    }
+    if row.len() < letter.len() {
+        return Err(Refusal::RowTooShort);
+    }
+    Ok(())
+}
+
+// The first value of a field, written to the front of the lent row in small letters and without blanks before it.
+pub fn field_of(letter: &[u8], name: &[u8], out: &mut [u8]) -> Reply
+    ensures { λ r. ⌜ Field-says (now (letter .entry)) (now (name .entry)) (now (out .entry)) (refusal (now (letter .entry)) (now (name .entry)) (now (out .entry))) r (now (out .exit)) ⌝ }
+{
+    if let Err(refusal) = admitted(letter, name, out) {
+        return Reply::Refused(refusal as u64);
+    }
+    let Some((value, _)) = first_value(letter, name) else {
+        return Reply::None;
+    };
+    text::copy_lowercase(value, out);
+    Reply::Value(value.len() as u64)
 }
 
 // Whether some value of the field holds `text`.

@@ -1,2 +1,3 @@
 pub mod Small
 pub mod Lines
+pub mod Entries

@@ -29,6 +29,14 @@ enum Refusal {
     RowTooShort = 3,
 }
 
+impl Refusal {
+    fn number(self) -> u64
+        ensures { λ r. ⌜ r ≡ number self ⌝ }
+    {
+        self as u64
+    }
+}
+
 // The longest letter and the longest name that a field is looked for by.
 const MAX_LETTER: usize = 65_535;
 const MAX_NAME: usize = 64;
@@ -54,7 +62,7 @@ pub fn field_of(letter: &[u8], name: &[u8], out: &mut [u8]) -> Reply
     ensures { λ r. ⌜ Field-says (now (letter .entry)) (now (name .entry)) (now (out .entry)) (refusal (now (letter .entry)) (now (name .entry)) (now (out .entry))) r (now (out .exit)) ⌝ }
 {
     if let Err(refusal) = admitted(letter, name, out) {
-        return Reply::Refused(refusal as u64);
+        return Reply::Refused(refusal.number());
     }
     let Some((value, _)) = first_value(letter, name) else {
         return Reply::None;

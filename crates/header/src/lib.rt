@@ -11,7 +11,7 @@ mod text;
 
 use head::first_value;
 
-#[derive(Clone, Copy)]
+#[derive(Clone, Copy, PartialEq, Eq, Debug)]
 pub enum Reply {
     // The first value, so long.
     Value(u64),
@@ -97,4 +97,68 @@ pub fn field_equals(letter: &[u8], name: &[u8], text: &[u8]) -> bool
         left = rest;
     }
     false
+}
+
+#[cfg(test)]
+mod tests {
+    use super::*;
+    use std::test::*;
+
+    const ROW: usize = 64;
+
+    // The first value of the field is `value`, and nothing past it is written.
+    fn told(letter: &[u8], name: &[u8], value: &[u8]) -> Result<(), Fail> {
+        let mut row = [b'#'; ROW];
+        check_eq(field_of(letter, name, &mut row), Reply::Value(value.len() as u64))?;
+        check(value.len() < ROW)?;
+        check(&row[0..value.len()] == value && row[value.len()] == b'#')
+    }
+
+    fn not_told(letter: &[u8], name: &[u8], reply: Reply) -> Result<(), Fail> {
+        let mut row = [b'#'; ROW];
+        check_eq(field_of(letter, name, &mut row), reply)?;
+        check(row[0] == b'#' && row[ROW - 1] == b'#')
+    }
+
+    #[test]
+    fn first_values() -> Result<(), Fail> {
+        let plain = b"Subject: Bill for ice\nFrom: Works\n\nTo: nobody\n";
+        told(plain, b"subject", b"bill for ice")?;
+        told(plain, b"FROM", b"works")?;
+        told(b"SUBJECT:x", b"Subject", b"x")?;
+        told(b"to: a\nto: b\n", b"to", b"a")?;
+        told(b"to:    \n", b"to", b"")?;
+        told(b"to::b", b"to", b":b")
+    }
+
+    #[test]
+    fn no_values() -> Result<(), Fail> {
+        not_told(b"", b"to", Reply::None)?;
+        not_told(b"\nto: a\n", b"to", Reply::None)?;
+        not_told(b"subject\nto\n", b"to", Reply::None)?;
+        not_told(b"to : a\n to: b\n", b"to", Reply::None)?;
+        not_told(b"to: a", b"", Reply::Refused(2))?;
+        not_told(b"to: a", &[b't'; 65], Reply::Refused(2))?;
+        not_told(&[b't'; 65], b"to", Reply::Refused(3))?;
+        not_told(&[b't'; 65_536], b"to", Reply::Refused(1))
+    }
+
+    #[test]
+    fn long_lines() -> Result<(), Fail> {
+        let mut letter = [b'A'; 65_000];
+        let mut row = [b'#'; 65_000];
+        check_eq(field_of(&letter, b"a", &mut row), Reply::None)?;
+        letter[1] = b':';
+        check_eq(field_of(&letter, b"a", &mut row), Reply::Value(64_998))?;
+        check(row[0] == b'a' && row[64_997] == b'a' && row[64_998] == b'#')
+    }
+
+    #[test]
+    fn texts() -> Result<(), Fail> {
+        let letter = b"to: Anna, Bo\nTO: cai\n\nto: dora";
+        check(field_holds(letter, b"to", b"BO") && field_holds(letter, b"to", b"cai") && field_holds(letter, b"to", b""))?;
+        check(!field_holds(letter, b"to", b"dora") && !field_holds(letter, b"to", b"bo\nto") && !field_holds(letter, b"from", b""))?;
+        check(field_equals(letter, b"to", b"Cai") && field_equals(letter, b"to", b"anna, bo"))?;
+        check(!field_equals(letter, b"to", b"anna") && !field_equals(letter, b"to", b"") && !field_equals(b"", b"to", b""))
+    }
 }

@@ -1,20 +1,19 @@
 -- When a field is not looked for, and what is answered then and otherwise.
-use mathlib.Core.Path.{_≡_, refl, sym, ap, _∙_}
+use mathlib.Core.Path.{_≡_, refl, ap}
 use mathlib.Core.Bool.{Bool, true, false, _&&_}
 use mathlib.Core.List.{List, [], _∷_, _++_}
 use mathlib.Core.Logic.{_⊎_, inl, inr}
-use Prim.Native.Nat.{ℕ, zero, suc, _+_, _≤_, _<_}
+use Prim.Native.Nat.{ℕ, _≤_, _<_}
 use native.Mathlib.Omega.{arith}
 use lib.Dec.{ltb, leb}
 use lib.ListN.{length, drop}
 use borrow.Author.Tests.{lt-ltb, le-ltb, le-leb, lt-leb, leb-true}
 use Rattle.std.proofs.shelf.Tests.{cases-bool, and-right}
 use Rattle.model.specs.Mail.{pick, small, smalls, field}
-use Rattle.header.specs.declared.Reply.{Reply}
 use Rattle.header.specs.declared.Reply.the-variants.{Value, None, Refused}
 use Rattle.header.specs.declared.Refusal.{Refusal}
 use Rattle.header.specs.declared.Refusal.the-variants.{LetterTooLong, NameLength, RowTooShort}
-use Rattle.header.specs.Entry.{first-or-none, reply, Field-says, refusal}
+use Rattle.header.specs.Entry.{reply, Field-says, refusal}
 use Rattle.header.specs.Refusals.{number}
 use Rattle.header.proofs.Small.{length-each}
 
@@ -48,8 +47,8 @@ module _ (letter name out : List ℕ) where
   unfolding refusal
   refusal-fits e =
       elim (cases-bool (leb (length letter) (length out))) [
-        inl t ↦ leb-true (length letter) (length out) t
-      | inr t ↦ absurd (never (ltb (length letter) 65536) (leb 1 (length name) && leb (length name) 64) (rw t at e))
+        | inl t ↦ leb-true (length letter) (length out) t
+        | inr t ↦ absurd (never (ltb (length letter) 65536) (leb 1 (length name) && leb (length name) 64) (rw t at e))
       ]
 
   pub says-refused : (e : Refusal) (n : ℕ) → refusal letter name out ≡ number e → n ≡ number e → Field-says letter name out (refusal letter name out) (Refused n) out

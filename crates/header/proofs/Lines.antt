@@ -1,6 +1,6 @@
 -- Laws of a letter's lines and of the values of a field: what a walk over the head goes by, free of the bound on the number of lines.
 use mathlib.Core.Path.{_≡_, refl, sym, ap, _∙_}
-use mathlib.Core.Bool.{Bool, true, false, _&&_, and-true}
+use mathlib.Core.Bool.{true, false, _&&_, and-true}
 use mathlib.Core.List.{List, [], _∷_, _++_}
 use Prim.Native.Nat.{ℕ, zero, suc, _+_, _-_, _≤_, _<_}
 use native.Mathlib.Omega.{arith}
@@ -9,7 +9,7 @@ use native.Mathlib.Numerals.{add-one}
 use lib.ListN.{length, getD, take, drop, length-take, length-drop, length-append}
 use borrow.Author.Tests.{ne-eqb}
 use Rattle.std.proofs.shelf.Lists.{drop-more, drop-all, take-rest}
-use mathlib.Core.Logic.{_⊎_, inl, inr}
+use mathlib.Core.Logic.{inl, inr}
 use Rattle.std.proofs.shelf.Tests.{cases-bool, cases-eq, and-right}
 use Rattle.model.specs.Mail.{pick, each, those, small, smalls, none-of, line-of, after-line, head-lines, starts-with, no-blanks, field}
 use Rattle.header.specs.Head.{of-field, First-line, Line-value, First-value}
@@ -24,11 +24,6 @@ pub after-line-drop : (bs : List ℕ) → after-line bs ≡ drop (suc (length (l
 unfolding line-of after-line
 after-line-drop [] = refl
 after-line-drop (c ∷ cs) = elim (cases-bool (eqb c 10)) [ inl e ↦ rw e | inr e ↦ rw e (after-line-drop cs) ]
-
-pub length-line-of : (bs : List ℕ) → length (line-of bs) ≤ length bs
-unfolding line-of
-length-line-of [] = omega arith
-length-line-of (c ∷ cs) = elim (cases-bool (eqb c 10)) [ inl e ↦ rw e (omega arith) | inr e ↦ rw e (omega (arith, length-line-of cs)) ]
 
 pub line-of-end : (bs : List ℕ) (i : ℕ) → i < length bs → getD bs i 0 ≡ 10 → line-of (drop i bs) ≡ []
 unfolding line-of
@@ -90,11 +85,11 @@ field-other name bs l e = rw (head-lines-more bs l, e)
 pub first-line-is : (bs : List ℕ) (end next : ℕ) → end ≡ length (line-of bs) → (end ≡ 0 → ⊥) → drop next bs ≡ after-line bs → end ≤ next → next ≤ length bs →
     First-line bs (take (end - 0) bs) (take (length bs - next) (drop next bs))
 first-line-is bs end next e some d before within = record {
-    line-is = let z : end - 0 ≡ length (line-of bs) = omega arith in rw z (sym (line-of-take bs));
-    rest-is = take-rest bs next ∙ d;
-    shorter = simp (length-take, length-drop) (omega arith);
-    some = rw length-take (omega arith)
-  }
+  line-is = let z : end - 0 ≡ length (line-of bs) = omega arith in rw z (sym (line-of-take bs));
+  rest-is = take-rest bs next ∙ d;
+  shorter = simp (length-take, length-drop) (omega arith);
+  some = rw length-take (omega arith);
+}
 
 pub after-last-line : (bs : List ℕ) (end : ℕ) → end ≡ length (line-of bs) → length bs ≤ end → drop end bs ≡ after-line bs
 after-last-line bs end e l = drop-all end bs l ∙ sym (after-line-drop bs ∙ drop-all (suc (length (line-of bs))) bs (omega arith))

@@ -1,17 +1,17 @@
 -- Laws of small letters, and of the tests that compare texts in them: each turns a test over lists into what a loop over lent bytes looks at.
 use mathlib.Core.Path.{_≡_, refl, sym, ap, _∙_}
-use mathlib.Core.Bool.{Bool, true, false, _&&_, cond, and-assoc, false≢true}
+use mathlib.Core.Bool.{true, false, _&&_, and-assoc}
 use mathlib.Core.List.{List, [], _∷_, _++_, append-assoc}
 use Prim.Native.Nat.{ℕ, zero, suc, _+_, _≤_, _<_}
 use native.Mathlib.Omega.{arith}
-use lib.Dec.{eqb, ltb, leb}
+use lib.Dec.{eqb, leb}
 use lib.ListN.{length, getD, set, take, drop}
-use borrow.Author.Tests.{ltb-true, ltb-false, leb-true, leb-false, lt-ltb, le-ltb, le-leb, lt-leb, eq-eqb, ne-eqb, eqb-true, eqb-false}
+use borrow.Author.Tests.{lt-ltb, le-ltb, le-leb, lt-leb, ne-eqb}
 use Rattle.std.proofs.shelf.Lists.{drop-more, drop-all, take-more, length-take-le, set-at}
 use Rattle.std.proofs.shelf.Tests.{cases-bool, cases-lt, and-right}
-use mathlib.Core.Logic.{_⊎_, inl, inr}
+use mathlib.Core.Logic.{inl, inr}
 use Rattle.std.specs.Text.{lower}
-use Rattle.model.specs.Mail.{pick, or, each, small, smalls, none-of, starts-with, holds, same, no-blanks}
+use Rattle.model.specs.Mail.{each, small, smalls, starts-with, holds, same, no-blanks}
 
 pub length-each : {A B : Type 0} (f : A → B) (xs : List A) → length (each f xs) ≡ length xs
 length-each f [] = refl
@@ -35,10 +35,10 @@ small-above c a = let b : leb 65 c ≡ true = le-leb 65 c (omega arith) in rw (b
 pub lower-small : (c : ℕ) → lower c ≡ small c
 lower-small c =
     elim (cases-lt c 65) [
-      inl a ↦ rw (small-below c a, lt-ltb c 65 a)
-    | inr a ↦ elim (cases-lt c 91) [
-        inl b ↦ rw (small-capital c a (omega arith), le-ltb c 65 a, lt-ltb c 91 b)
-      | inr b ↦ rw (small-above c (omega arith), le-ltb c 65 a, le-ltb c 91 b)
+      | inl a ↦ rw (small-below c a, lt-ltb c 65 a)
+      | inr a ↦ elim (cases-lt c 91) [
+        | inl b ↦ rw (small-capital c a (omega arith), le-ltb c 65 a, lt-ltb c 91 b)
+        | inr b ↦ rw (small-above c (omega arith), le-ltb c 65 a, le-ltb c 91 b)
       ]
     ]
 
@@ -46,10 +46,10 @@ lower-small c =
 pub small-of-low : (c d : ℕ) → d < 65 → eqb (small c) d ≡ eqb c d
 small-of-low c d low =
     elim (cases-lt c 65) [
-      inl a ↦ rw (small-below c a)
-    | inr a ↦ elim (cases-lt c 91) [
-        inl b ↦ rw (small-capital c a (omega arith), ne-eqb (c + 32) d (λ e. omega arith), ne-eqb c d (λ e. omega arith))
-      | inr b ↦ rw (small-above c (omega arith))
+      | inl a ↦ rw (small-below c a)
+      | inr a ↦ elim (cases-lt c 91) [
+        | inl b ↦ rw (small-capital c a (omega arith), ne-eqb (c + 32) d (λ e. omega arith), ne-eqb c d (λ e. omega arith))
+        | inr b ↦ rw (small-above c (omega arith))
       ]
     ]
 
@@ -100,13 +100,6 @@ starts-with-at ps ws i h k = rw (drop-more ps i 0 h, drop-more ws i 0 k, lower-s
 pub starts-with-none : (ps ws : List ℕ) (i : ℕ) → length ps ≤ i → starts-with (smalls (drop i ps)) ws ≡ true
 unfolding starts-with
 starts-with-none ps ws i h = rw (drop-all i ps h)
-
-pub starts-with-fits : (ps ws : List ℕ) → starts-with (smalls ps) (smalls ws) ≡ true → length ps ≤ length ws
-starts-with-fits ps ws e =
-    elim (cases-lt (length ws) (length ps)) [
-      inl l ↦ absurd (false≢true (sym (starts-with-short (smalls ps) (smalls ws) (rw (length-each small ps, length-each small ws) l)) ∙ e))
-    | inr l ↦ l
-    ]
 
 pub holds-here : (ps ws : List ℕ) → starts-with ps ws ≡ true → holds ps ws ≡ true
 unfolding starts-with holds

@@ -8,8 +8,8 @@ ghost use lib.ListN.{length};
 ghost use Rattle.std.specs.Options.{Cases};
 ghost use Rattle.model.specs.Mail.{line-of, field};
 ghost use Rattle.header.specs.Head.{First-line, of-field, Line-value, First-value};
-
-use crate::text::{begins_with, without_blanks};
+use crate::text::begins_with;
+use crate::text::without_blanks;
 
 // How many bytes stand before the first line end; all, if there is none.
 fn line_length(bytes: &[u8]) -> usize

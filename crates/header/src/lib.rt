@@ -25,7 +25,9 @@ pub enum Reply {
 #[derive(Clone, Copy)]
 enum Refusal {
     LetterTooLong = 1,
+    // It has no bytes, or too many.
     NameLength = 2,
+    // Shorter than the letter, so that a value might not fit.
     RowTooShort = 3,
 }
 
@@ -37,8 +39,9 @@ impl Refusal {
     }
 }
 
-// The longest letter and the longest name that a field is looked for by.
+// A longer letter is refused; none that is handed in has more than 65,000 bytes.
 const MAX_LETTER: usize = 65_535;
+// As many bytes as any name in a house may have.
 const MAX_NAME: usize = 64;
 
 // Whether the field can be looked for, and any value of it written to the row.
@@ -109,7 +112,10 @@ mod tests {
     // The first value of the field is `value`, and nothing past it is written.
     fn told(letter: &[u8], name: &[u8], value: &[u8]) -> Result<(), Fail> {
         let mut row = [b'#'; ROW];
-        check_eq(field_of(letter, name, &mut row), Reply::Value(value.len() as u64))?;
+        check_eq(
+            field_of(letter, name, &mut row),
+            Reply::Value(value.len() as u64),
+        )?;
         check(value.len() < ROW)?;
         check(&row[0..value.len()] == value && row[value.len()] == b'#')
     }
@@ -153,12 +159,28 @@ mod tests {
         check(row[0] == b'a' && row[64_997] == b'a' && row[64_998] == b'#')
     }
 
+    // Whether some value of the field holds the text, and whether one is it.
+    fn tested(
+        letter: &[u8],
+        name: &[u8],
+        text: &[u8],
+        holds: bool,
+        equals: bool,
+    ) -> Result<(), Fail> {
+        check_eq(field_holds(letter, name, text), holds)?;
+        check_eq(field_equals(letter, name, text), equals)
+    }
+
     #[test]
     fn texts() -> Result<(), Fail> {
-        let letter = b"to: Anna, Bo\nTO: cai\n\nto: dora";
-        check(field_holds(letter, b"to", b"BO") && field_holds(letter, b"to", b"cai") && field_holds(letter, b"to", b""))?;
-        check(!field_holds(letter, b"to", b"dora") && !field_holds(letter, b"to", b"bo\nto") && !field_holds(letter, b"from", b""))?;
-        check(field_equals(letter, b"to", b"Cai") && field_equals(letter, b"to", b"anna, bo"))?;
-        check(!field_equals(letter, b"to", b"anna") && !field_equals(letter, b"to", b"") && !field_equals(b"", b"to", b""))
+        let letter = b"to: Anna, Bo\nTO: cai\nre:\n\nto: dora";
+        tested(letter, b"to", b"BO", true, false)?;
+        tested(letter, b"To", b"Cai", true, true)?;
+        tested(letter, b"to", b"anna, bo", true, true)?;
+        tested(letter, b"to", b"", true, false)?;
+        tested(letter, b"re", b"", true, true)?;
+        tested(letter, b"from", b"", false, false)?;
+        tested(letter, b"to", b"bo\nto", false, false)?;
+        tested(letter, b"to", b"dora", false, false)
     }
 }

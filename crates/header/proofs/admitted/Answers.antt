@@ -1,3 +1,4 @@
+-- Each test that fails names its refusal; after all of them there is none.
 use mathlib.Core.Path.{sym, _∙_}
 use mathlib.Core.Logic.{inl, inr}
 use native.Mathlib.Omega.{arith}
@@ -13,8 +14,8 @@ pub returns-then-is-empty : need.returns-then-is-empty
 returns-then-is-empty c =
     refusal-name (c .args .letter .now) (c .args .name .now) (c .args .row .now) (c .if-letter-gt-MAX-LETTER .left)
     (elim (c .then-is-empty .came) [
-      then-is-empty·by·then-is-empty w ↦ inl (eqb-true _ _ (sym (c .is-empty .ensures) ∙ w .if-is-empty .taken))
-    | then-is-empty·by·else-is-empty·then-name-gt-MAX-NAME w ↦ inr (w .if-name-gt-MAX-NAME .taken)
+      | then-is-empty·by·then-is-empty w ↦ inl (eqb-true _ _ (sym (c .is-empty .ensures) ∙ w .if-is-empty .taken))
+      | then-is-empty·by·else-is-empty·then-name-gt-MAX-NAME w ↦ inr (w .if-name-gt-MAX-NAME .taken)
     ])
 
 pub returns-then-row-letter : need.returns-then-row-letter

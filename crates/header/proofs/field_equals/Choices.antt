@@ -1,3 +1,4 @@
+-- The values passed were not the text.
 use mathlib.Core.Path.{_≡_}
 use lib.ListN.{length}
 use Rattle.model.specs.Mail.{any, same, smalls, field}

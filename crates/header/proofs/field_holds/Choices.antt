@@ -1,3 +1,4 @@
+-- The values passed did not hold the text.
 use mathlib.Core.Path.{_≡_}
 use lib.ListN.{length}
 use Rattle.model.specs.Mail.{any, holds, smalls, field}

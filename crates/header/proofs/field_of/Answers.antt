@@ -1,3 +1,4 @@
+-- What is refused, what has no value, and the value written: each as it is answered. A value fits since it is no longer than the letter.
 use native.Mathlib.Omega.{arith}
 use Rattle.model.specs.Mail.{field}
 use Rattle.header.proofs.Entries.{refusal-fits, says-refused, says-none, says-value}

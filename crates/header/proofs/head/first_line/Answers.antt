@@ -1,3 +1,4 @@
+-- The line is what stands before its end, and the rest what stands after that.
 use mathlib.Core.Path.{sym, ap, _∙_}
 use native.Mathlib.Omega.{arith}
 use lib.ListN.{drop}
@@ -15,8 +16,8 @@ returns c =
     first-line-is
     (c .args .bytes .now) (c .line-length-end .result) (c .if-end-bytes .next) (c .line-length-end .ensures .value) (c .if-end-eq0 .left)
     (elim (c .if-end-bytes .came) [
-      then-end-bytes w ↦ ap (λ n. drop n (c .args .bytes .now)) (w .next-is) ∙ after-line-end (c .args .bytes .now) (c .line-length-end .result) (c .line-length-end .ensures .value)
-    | else-end-bytes w ↦ ap (λ n. drop n (c .args .bytes .now)) (w .next-is) ∙ after-last-line (c .args .bytes .now) (c .line-length-end .result) (c .line-length-end .ensures .value) (w .if-end-bytes .left)
+      | then-end-bytes w ↦ ap (λ n. drop n (c .args .bytes .now)) (w .next-is) ∙ after-line-end (c .args .bytes .now) (c .line-length-end .result) (c .line-length-end .ensures .value)
+      | else-end-bytes w ↦ ap (λ n. drop n (c .args .bytes .now)) (w .next-is) ∙ after-last-line (c .args .bytes .now) (c .line-length-end .result) (c .line-length-end .ensures .value) (w .if-end-bytes .left)
     ])
     (elim (c .if-end-bytes .came) [ then-end-bytes w ↦ omega (arith, w .next-is) | else-end-bytes w ↦ omega (arith, w .next-is) ])
     (elim (c .if-end-bytes .came) [ then-end-bytes w ↦ omega (arith, w .next-is) | else-end-bytes w ↦ omega (arith, w .next-is) ])

@@ -1,3 +1,4 @@
+-- What is left has the values that the whole has: the lines passed were of no field.
 use mathlib.Core.Path.{_≡_}
 use Prim.Native.Nat.{_≤_}
 use lib.ListN.{length}

@@ -1,3 +1,4 @@
+-- The bytes passed and the line that begins here make up the first line.
 use mathlib.Core.Path.{_≡_}
 use Prim.Native.Nat.{_+_}
 use lib.ListN.{length, drop}

@@ -1,3 +1,4 @@
+-- A line is one of the field if it begins with the name and a colon follows; each way out lacks one of these.
 use mathlib.Core.Path.{_≡_, sym, ap, _∙_}
 use native.Mathlib.Omega.{arith}
 use Prim.Native.Nat.{_+_}
@@ -20,7 +21,7 @@ returns-then-line-colon-eq58 c =
 pub returns-else-begins-with : need.returns-else-begins-with
 returns-else-begins-with c =
     elim (c .else-begins-with .came) [
-      else-begins-with·by·then-begins-with·then-colon-line·else-line-colon-eq58 w ↦ of-field-no-colon (c .args .name .now) (c .args .line .now) (w .if-colon-line .taken) (w .if-line-colon-eq58 .left)
-    | else-begins-with·by·then-begins-with·else-colon-line w ↦ of-field-short (c .args .name .now) (c .args .line .now) (w .if-colon-line .left)
-    | else-begins-with·by·else-begins-with w ↦ of-field-unnamed (c .args .name .now) (c .args .line .now) (sym (w .if-begins-with .ensures tt))
+      | else-begins-with·by·then-begins-with·then-colon-line·else-line-colon-eq58 w ↦ of-field-no-colon (c .args .name .now) (c .args .line .now) (w .if-colon-line .taken) (w .if-line-colon-eq58 .left)
+      | else-begins-with·by·then-begins-with·else-colon-line w ↦ of-field-short (c .args .name .now) (c .args .line .now) (w .if-colon-line .left)
+      | else-begins-with·by·else-begins-with w ↦ of-field-unnamed (c .args .name .now) (c .args .line .now) (sym (w .if-begins-with .ensures tt))
     ]

@@ -1,3 +1,4 @@
+-- Two letters that differ decide it; two alike leave it to the rest.
 use mathlib.Core.Path.{sym, ap, _∙_}
 use mathlib.Core.Bool.{_&&_}
 use Prim.Native.Nat.{_+_}

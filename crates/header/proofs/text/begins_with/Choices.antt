@@ -1,3 +1,4 @@
+-- Whether the prefix is there hangs on what is left of both.
 use mathlib.Core.Path.{_≡_}
 use lib.ListN.{drop}
 use Rattle.model.specs.Mail.{smalls, starts-with}

@@ -1,7 +1,6 @@
-use mathlib.Core.Path.{sym, ap, _∙_}
-use mathlib.Core.List.{[]}
-use Rattle.std.proofs.shelf.Lists.{nil-from-length}
-use Rattle.model.specs.Mail.{small, smalls, holds}
+-- The part stands at the front of what is left, or in its tail.
+use mathlib.Core.Path.{sym, _∙_}
+use Rattle.model.specs.Mail.{smalls}
 use Rattle.header.proofs.Small.{holds-here, holds-none, holds-tail}
 use Rattle.header.proofs.text.contains.Needs as need
 

@@ -1,3 +1,4 @@
+-- Whether the part is there hangs on what is left of the text.
 use mathlib.Core.Path.{_≡_}
 use lib.ListN.{length}
 use Rattle.model.specs.Mail.{smalls, holds}

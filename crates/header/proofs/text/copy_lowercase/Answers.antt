@@ -1,3 +1,4 @@
+-- One more letter written, and the end.
 use mathlib.Core.Path.{_≡_}
 use native.Mathlib.Omega.{arith}
 use lib.ListN.{length}

@@ -1,3 +1,4 @@
+-- The front of the row is what was read so far, in small letters; the rest of it is as it was.
 use mathlib.Core.Path.{_≡_}
 use mathlib.Core.List.{_++_}
 use lib.ListN.{take, drop}

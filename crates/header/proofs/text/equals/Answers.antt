@@ -1,5 +1,5 @@
+-- Texts of one length are one if either begins with the other; others never are.
 use mathlib.Core.Path.{sym, _∙_}
-use native.Mathlib.Omega.{arith}
 use borrow.Author.Tests.{ne-eqb}
 use Rattle.model.specs.Mail.{small, smalls}
 use Rattle.header.proofs.Small.{length-each, same-starts-with, same-length}

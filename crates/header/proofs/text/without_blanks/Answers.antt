@@ -1,8 +1,8 @@
-use mathlib.Core.Path.{sym, ap, _∙_}
+-- The first byte that is no blank begins the text; if there is none, nothing is left.
+use mathlib.Core.Path.{sym, _∙_}
 use native.Mathlib.Omega.{arith}
 use lib.ListN.{length}
 use Rattle.std.proofs.shelf.Lists.{take-rest, drop-all}
-use Rattle.model.specs.Mail.{no-blanks}
 use Rattle.header.proofs.Small.{no-blanks-more, no-blanks-other, no-blanks-none}
 use Rattle.header.proofs.text.without_blanks.Needs as need
 

@@ -1,3 +1,4 @@
+-- All bytes passed were blanks.
 use mathlib.Core.Path.{_≡_}
 use lib.ListN.{drop}
 use Rattle.model.specs.Mail.{no-blanks}

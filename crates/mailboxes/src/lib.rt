@@ -1,0 +1,2 @@
+// People and boxes.
+pub const RECORD_WORDS: usize = 12;

@@ -77,6 +77,10 @@ house = only (λ d. ltb d 16) number
 unfoldable pub person : Reader ℕ
 person = only (λ a. ltb a 64) number
 
+-- a person, and a box of theirs by its name
+abbrev pub mailbox : Reader (ℕ × List ℕ)
+mailbox = pair person name
+
 unfoldable pub mark-number : Reader ℕ
 mark-number = only (λ m. ltb m 8) byte
 
@@ -122,15 +126,15 @@ front-command =
         ∷ made join name
         ∷ made (λ p. hand-in (p .0) (p .1 .0) (p .1 .1)) (pair house (pair person letter))
         ∷ made boxes person
-        ∷ made (λ p. new-box (p .0) (p .1)) (pair person name)
-        ∷ made (λ p. drop-box (p .0) (p .1)) (pair person name)
-        ∷ made (λ p. list (p .0) (p .1 .0) (p .1 .1 .0) (p .1 .1 .1)) (pair person (pair name (pair number (only (λ k. leb 1 k && leb k 1000) number))))
-        ∷ made (λ p. get (p .0) (p .1 .0) (p .1 .1 .0) (p .1 .1 .1 .0) (p .1 .1 .1 .1)) (pair person (pair name (pair number (pair number (only (λ k. leb k 65536) number)))))
-        ∷ made (λ p. set-mark (p .0) (p .1 .0) (p .1 .1 .0) (p .1 .1 .1 .0) (p .1 .1 .1 .1)) (pair person (pair name (pair number (pair mark-number flag))))
-        ∷ made (λ p. to-box (p .0) (p .1 .0) (p .1 .1 .0) (p .1 .1 .1)) (pair person (pair name (pair number name)))
-        ∷ made (λ p. clear (p .0) (p .1)) (pair person name)
+        ∷ made (λ p. new-box (p .0) (p .1)) mailbox
+        ∷ made (λ p. drop-box (p .0) (p .1)) mailbox
+        ∷ made (λ p. list (p .0 .0) (p .0 .1) (p .1 .0) (p .1 .1)) (pair mailbox (pair number (only (λ k. leb 1 k && leb k 1000) number)))
+        ∷ made (λ p. get (p .0 .0) (p .0 .1) (p .1 .0) (p .1 .1 .0) (p .1 .1 .1)) (pair mailbox (pair number (pair number (only (λ k. leb k 65536) number))))
+        ∷ made (λ p. set-mark (p .0 .0) (p .0 .1) (p .1 .0) (p .1 .1 .0) (p .1 .1 .1)) (pair mailbox (pair number (pair mark-number flag)))
+        ∷ made (λ p. to-box (p .0 .0) (p .0 .1) (p .1 .0) (p .1 .1)) (pair mailbox (pair number name))
+        ∷ made (λ p. clear (p .0) (p .1)) mailbox
         ∷ made (λ p. rules (p .0) (p .1)) (pair person rules-of)
-        ∷ made (λ p. find (p .0) (p .1 .0) (p .1 .1)) (pair person (pair name (test-of 4)))
+        ∷ made (λ p. find (p .0 .0) (p .0 .1) (p .1)) (pair mailbox (test-of 4))
         ∷ made push house
         ∷ [])
 

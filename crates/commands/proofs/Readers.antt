@@ -54,15 +54,25 @@ only-parts p r bs v rest e =
     let t = taken (p (w .0 .0)) (w .0) (v, rest) (w .2) in
     (w .1 ∙ ap Some (t .1), ap (λ x. p (x .0)) (sym (t .1)) ∙ t .0)
 
+pub given-was-spelled :
+    {B : Type 0} (a : B) (spell : B → List ℕ) (fit : B → Bool) (front : List ℕ) → spell a ≡ front → fit a ≡ true →
+    (bs : List ℕ) (v : B) (rest : List ℕ) → given a bs ≡ Some (v, rest) → (spell v ++ rest ≡ front ++ bs) × (fit v ≡ true)
+given-was-spelled a spell fit front same fits bs v rest e =
+    let q = same-some (a, bs) (v, rest) e in
+    (ap (λ x. spell (x .0) ++ x .1) (sym q) ∙ ap (λ x. x ++ bs) same, ap (λ x. fit (x .0)) (sym q) ∙ fits)
+
+pub nothing-read : {A : Type 0} {P : Type 0} (q : A) → _≡_ {A = Option A} None (Some q) → P
+nothing-read q e = absurd (let z : _≡_ {A = ℕ} 0 1 = cc in omega arith)
+
 module _ {A B : Type 0} {r : Reader A} {s : A → List ℕ} {g : A → Bool} (reads : Reads-spelling r s g) where
   pub made-was-spelled :
       (f : A → B) (spell : B → List ℕ) (fit : B → Bool) (front : List ℕ) →
-      ((a : A) → spell (f a) ≡ front ++ s a) → ((a : A) → g a ≡ true → fit (f a) ≡ true) →
+      ((a : A) → g a ≡ true → spell (f a) ≡ front ++ s a) → ((a : A) → g a ≡ true → fit (f a) ≡ true) →
       (bs : List ℕ) (v : B) (rest : List ℕ) → made f r bs ≡ Some (v, rest) → (spell v ++ rest ≡ front ++ bs) × (fit v ≡ true)
   made-was-spelled f spell fit front same fits bs v rest e =
       let m = made-parts f r bs v rest e in
       let h = reads .was-spelled bs (m .0) rest (m .1) in
-      (ap (λ x. spell x ++ rest) (sym (m .2)) ∙ ap (λ x. x ++ rest) (same (m .0)) ∙ append-assoc front (s (m .0)) rest ∙ ap (λ x. front ++ x) (h .0),
+      (ap (λ x. spell x ++ rest) (sym (m .2)) ∙ ap (λ x. x ++ rest) (same (m .0) (h .1)) ∙ append-assoc front (s (m .0)) rest ∙ ap (λ x. front ++ x) (h .0),
        ap fit (sym (m .2)) ∙ fits (m .0) (h .1))
 
   pub made-is-read :

@@ -15,7 +15,7 @@ use Rattle.commands.specs.Reader.{Reader, given, made, pair, only, by-kind, by
 use Rattle.commands.proofs.Readers.{Reads-spelling, made-parts, only-parts, given-was-spelled, nothing-read, made-was-spelled, made-is-read, pair-reads, only-reads, same-some}
 use Rattle.commands.proofs.Numbers.{number-reads, counted-reads, listed-reads}
 
-fits-below : (m n : ℕ) → m < 18446744073709551616 → leb n m ≡ true → number-fits n ≡ true
+pub fits-below : (m n : ℕ) → m < 18446744073709551616 → leb n m ≡ true → number-fits n ≡ true
 fits-below m n small t = let le = leb-true n m t in lt-ltb n 18446744073709551616 (omega arith)
 
 pub name-reads : Reads-spelling name with-length a-name
@@ -90,13 +90,13 @@ module _ (d : ℕ) (below : Reads-spelling (test-of d) test-spelled (test-fits d
   deeper-is-read : (v : Test) (rest : List ℕ) → test-fits (suc d) v ≡ true → test-of (suc d) (test-spelled v ++ rest) ≡ Some (v, rest)
   unfolding test-of test-spelled test-fits by-kind
   deeper-is-read always rest t = refl
-  deeper-is-read (field-has n u) rest t = made-is-read (pair-reads name-reads name-reads) (λ p. field-has (p .0) (p .1)) (n, u) _ rest refl t
-  deeper-is-read (field-is n u) rest t = made-is-read (pair-reads name-reads name-reads) (λ p. field-is (p .0) (p .1)) (n, u) _ rest refl t
-  deeper-is-read (longer k) rest t = made-is-read number-reads longer k _ rest refl t
-  deeper-is-read (marked m) rest t = made-is-read mark-number-reads marked m _ rest refl t
-  deeper-is-read (neither u) rest t = made-is-read below neither u _ rest refl t
-  deeper-is-read (both u w) rest t = made-is-read (pair-reads below below) (λ p. both (p .0) (p .1)) (u, w) _ rest refl t
-  deeper-is-read (either u w) rest t = made-is-read (pair-reads below below) (λ p. either (p .0) (p .1)) (u, w) _ rest refl t
+  deeper-is-read (field-has n u) rest t = made-is-read (pair-reads name-reads name-reads) (λ p. field-has (p .0) (p .1)) (n, u) (with-length n ++ with-length u) rest refl t
+  deeper-is-read (field-is n u) rest t = made-is-read (pair-reads name-reads name-reads) (λ p. field-is (p .0) (p .1)) (n, u) (with-length n ++ with-length u) rest refl t
+  deeper-is-read (longer k) rest t = made-is-read number-reads longer k (eight k) rest refl t
+  deeper-is-read (marked m) rest t = made-is-read mark-number-reads marked m (m ∷ []) rest refl t
+  deeper-is-read (neither u) rest t = made-is-read below neither u (test-spelled u) rest refl t
+  deeper-is-read (both u w) rest t = made-is-read (pair-reads below below) (λ p. both (p .0) (p .1)) (u, w) (test-spelled u ++ test-spelled w) rest refl t
+  deeper-is-read (either u w) rest t = made-is-read (pair-reads below below) (λ p. either (p .0) (p .1)) (u, w) (test-spelled u ++ test-spelled w) rest refl t
 
 pub test-reads : (d : ℕ) → Reads-spelling (test-of d) test-spelled (test-fits d)
 unfolding test-of test-fits
@@ -120,10 +120,10 @@ action-was-spelled (suc (suc (suc (suc (suc (suc k))))) ∷ bs) v rest e = nothi
 action-is-read : (v : Action) (rest : List ℕ) → act-fits v ≡ true → action-of (act-spelled v ++ rest) ≡ Some (v, rest)
 unfolding action-of act-spelled act-fits by-kind
 action-is-read keep rest t = refl
-action-is-read (file n) rest t = made-is-read name-reads file n _ rest refl t
+action-is-read (file n) rest t = made-is-read name-reads file n (with-length n) rest refl t
 action-is-read away rest t = refl
-action-is-read (on-to d a) rest t = made-is-read (pair-reads house-reads person-reads) (λ p. on-to (p .0) (p .1)) (d, a) _ rest refl t
-action-is-read (mark m) rest t = made-is-read mark-number-reads mark m _ rest refl t
+action-is-read (on-to d a) rest t = made-is-read (pair-reads house-reads person-reads) (λ p. on-to (p .0) (p .1)) (d, a) (eight d ++ eight a) rest refl t
+action-is-read (mark m) rest t = made-is-read mark-number-reads mark m (m ∷ []) rest refl t
 action-is-read halt rest t = refl
 
 pub action-reads : Reads-spelling action-of act-spelled act-fits
@@ -134,8 +134,8 @@ unfolding rule-of
 rule-reads = record {
     was-spelled = λ bs v rest e. made-was-spelled parts (λ p. record { test = p .0; acts = p .1 }) rule-spelled rule-fits [] (λ p t. append-assoc (test-spelled (p .0)) (eight (length (p .1))) (flat act-spelled (p .1))) (λ p t. t) bs v rest e;
     is-read = λ v rest t.
-        made-is-read parts (λ p. record { test = p .0; acts = p .1 }) (v .test, v .acts) (rule-spelled v ++ rest) rest
-            (ap (λ x. x ++ rest) (append-assoc (test-spelled (v .test)) (eight (length (v .acts))) (flat act-spelled (v .acts)))) t }
+        made-is-read parts (λ p. record { test = p .0; acts = p .1 }) (v .test, v .acts) (rule-spelled v) rest
+            (append-assoc (test-spelled (v .test)) (eight (length (v .acts))) (flat act-spelled (v .acts))) t }
   where
     parts : Reads-spelling (pair (test-of 4) (listed 8 action-of)) (λ p. test-spelled (p .0) ++ (eight (length (p .1)) ++ flat act-spelled (p .1))) (λ p. test-fits 4 (p .0) && (leb (length (p .1)) 8 && every act-fits (p .1)))
     parts = pair-reads (test-reads 4) (listed-reads action-reads 8 (omega arith))

@@ -1,7 +1,7 @@
 -- Readers and spellings: a reader reads a spelling if what it reads was spelled, and what is spelled is read. Each way of making readers keeps that.
 use mathlib.Core.Path.{_≡_, refl, sym, ap, _∙_}
 use mathlib.Core.Bool.{Bool, true, false, _&&_}
-use mathlib.Core.List.{List, [], _∷_, _++_, append-assoc}
+use mathlib.Core.List.{List, [], _∷_, _++_, append-assoc, append-nil}
 use Prim.Native.Nat.{ℕ, zero, suc, _≤_, _<_}
 use native.Mathlib.Omega.{arith}
 use lib.Dec.{eqb, ltb, leb}
@@ -10,7 +10,7 @@ use Rattle.std.specs.declared.option.Option.{Option}
 use Rattle.std.specs.declared.option.Option.the-variants.{Some, None}
 use Rattle.std.proofs.shelf.Tests.{and-parts, and-from}
 use Rattle.model.specs.Mail.{pick, every, flat}
-use Rattle.commands.specs.Reader.{Reader, given, nothing, go-on, then, made, pair, only, so-many, by-kind}
+use Rattle.commands.specs.Reader.{Reader, given, nothing, go-on, then, made, pair, only, so-many, by-kind, no-more, all-used, whole}
 
 pub record Reads-spelling {A : Type 0} (r : Reader A) (spell : A → List ℕ) (fit : A → Bool) : Type 0 where
   pub was-spelled : (bs : List ℕ) (v : A) (rest : List ℕ) → r bs ≡ Some (v, rest) → (spell v ++ rest ≡ bs) × (fit v ≡ true)
@@ -76,9 +76,9 @@ module _ {A B : Type 0} {r : Reader A} {s : A → List ℕ} {g : A → Bool} (re
        ap fit (sym (m .2)) ∙ fits (m .0) (h .1))
 
   pub made-is-read :
-      (f : A → B) (a : A) (bs rest : List ℕ) → bs ≡ s a ++ rest → g a ≡ true → made f r bs ≡ Some (f a, rest)
+      (f : A → B) (a : A) (bs rest : List ℕ) → bs ≡ s a → g a ≡ true → made f r (bs ++ rest) ≡ Some (f a, rest)
   made-is-read f a bs rest same fits =
-      ap (λ x. made f r x) same ∙ ap (λ o. go-on o (λ a. given (f a))) (reads .is-read a rest fits)
+      ap (λ x. made f r (x ++ rest)) same ∙ ap (λ o. go-on o (λ a. given (f a))) (reads .is-read a rest fits)
 
 module _ {A B : Type 0} {r : Reader A} {s : A → List ℕ} {g : A → Bool} (reads : Reads-spelling r s g)
     {r₁ : Reader B} {s₁ : B → List ℕ} {g₁ : B → Bool} (reads₁ : Reads-spelling r₁ s₁ g₁) where
@@ -93,7 +93,7 @@ module _ {A B : Type 0} {r : Reader A} {s : A → List ℕ} {g : A → Bool} (re
           let ts = and-parts (g (v .0)) (g₁ (v .1)) t in
           ap (λ x. pair r r₁ x) (append-assoc (s (v .0)) (s₁ (v .1)) rest)
           ∙ ap (λ o. go-on o (λ a. made (λ b. (a, b)) r₁)) (reads .is-read (v .0) (s₁ (v .1) ++ rest) (ts .0))
-          ∙ made-is-read reads₁ (λ b. (v .0, b)) (v .1) (s₁ (v .1) ++ rest) rest refl (ts .1) }
+          ∙ made-is-read reads₁ (λ b. (v .0, b)) (v .1) (s₁ (v .1)) rest refl (ts .1) }
 
 module _ {A : Type 0} {r : Reader A} {s : A → List ℕ} {g : A → Bool} (reads : Reads-spelling r s g) where
   -- a reader that takes only some values, all of which fit
@@ -127,3 +127,20 @@ module _ {A : Type 0} {r : Reader A} {s : A → List ℕ} {g : A → Bool} (read
       let ts = and-parts (g v) (every g vs) t in
       let a : r ((s v ++ flat s vs) ++ rest) ≡ Some (v, flat s vs ++ rest) = rw append-assoc (reads .is-read v (flat s vs ++ rest) (ts .0)) in
       rw (a, so-many-is-read vs rest (ts .1))
+
+-- a reader of all the bytes
+nothing-left : {A : Type 0} (a : A) (rest : List ℕ) (v : A) → no-more a rest ≡ Some v → _≡_ {A = Option (A × List ℕ)} (Some (a, rest)) (Some (v, []))
+nothing-left a [] v e = ap (λ x. Some (x, [])) (same-some a v e)
+nothing-left a (b ∷ bs) v e = nothing-read v e
+
+all-of : {A : Type 0} (o : Option (A × List ℕ)) (v : A) → all-used o ≡ Some v → o ≡ Some (v, [])
+all-of None v e = nothing-read v e
+all-of (Some p) v e = nothing-left (p .0) (p .1) v e
+
+module _ {A : Type 0} {r : Reader A} {s : A → List ℕ} {g : A → Bool} (reads : Reads-spelling r s g) where
+  pub whole-was-spelled : (bs : List ℕ) (v : A) → whole r bs ≡ Some v → (s v ≡ bs) × (g v ≡ true)
+  whole-was-spelled bs v e =
+      let h = reads .was-spelled bs v [] (all-of (r bs) v e) in (sym (append-nil (s v)) ∙ h .0, h .1)
+
+  pub whole-is-read : (v : A) → g v ≡ true → whole r (s v) ≡ Some v
+  whole-is-read v t = ap (whole r) (sym (append-nil (s v))) ∙ ap all-used (reads .is-read v [] t)

@@ -14,7 +14,7 @@ use Rattle.std.proofs.shelf.Lists.{take-append-drop, length-take-le, take-at, d
 use Rattle.model.specs.Mail.{pick, every, flat, in-bytes, eight, with-length, all-bytes}
 use Rattle.model.specs.House.{number-fits}
 use Rattle.model.specs.Promise.{from-bytes}
-use Rattle.commands.specs.Reader.{Reader, given, nothing, go-on, then, made, pair, only, so-many, by-kind, first, number, counted, listed}
+use Rattle.commands.specs.Reader.{Reader, given, nothing, go-on, then, made, pair, only, so-many, by-kind, first, read-number, read-counted, listed}
 use Rattle.commands.proofs.Readers.{Reads-spelling, went-on, made-parts, only-parts, taken, so-many-was-spelled, so-many-is-read}
 
 -- digits of a number, and the number of digits
@@ -85,8 +85,8 @@ first-is-read n v rest h =
     let le : leb n (length (v ++ rest)) ≡ true = le-leb n (length (v ++ rest)) (omega (arith, length-append v rest)) in
     rw (le, take-at v rest n h, drop-at v rest n h)
 
-pub number-reads : Reads-spelling number eight number-fits
-unfolding number
+pub number-reads : Reads-spelling read-number eight number-fits
+unfolding read-number
 number-reads = record {
     was-spelled = λ bs v rest e.
         let m = made-parts (from-bytes 0) (only all-bytes (first 8)) bs v rest e in
@@ -101,17 +101,17 @@ number-reads = record {
         rw (f, a, number-of-eight v t) }
 
 -- bytes with their count before them
-pub counted-reads : Reads-spelling counted with-length (λ bs. number-fits (length bs))
-unfolding counted
+pub counted-reads : Reads-spelling read-counted with-length (λ bs. number-fits (length bs))
+unfolding read-counted
 counted-reads = record {
     was-spelled = λ bs v rest e.
-        let w = went-on (number bs) first (v, rest) e in
+        let w = went-on (read-number bs) first (v, rest) e in
         let n = number-reads .was-spelled bs (w .0 .0) (w .0 .1) (w .1) in
         let f = first-parts (w .0 .0) (w .0 .1) v rest (w .2) in
         (append-assoc (eight (length v)) v rest ∙ ap (λ x. eight x ++ (v ++ rest)) (f .1) ∙ ap (λ x. eight (w .0 .0) ++ x) (f .0) ∙ n .0,
          ap number-fits (f .1) ∙ n .1);
     is-read = λ v rest t.
-        let n : number (with-length v ++ rest) ≡ Some (length v, v ++ rest) = rw append-assoc (number-reads .is-read (length v) (v ++ rest) t) in
+        let n : read-number (with-length v ++ rest) ≡ Some (length v, v ++ rest) = rw append-assoc (number-reads .is-read (length v) (v ++ rest) t) in
         rw (n, first-is-read (length v) v rest refl) }
 
 -- a list with its count before it
@@ -121,8 +121,8 @@ pub listed-reads :
 unfolding listed
 listed-reads {r = r} {s = s} {g = g} reads most small = record {
     was-spelled = λ bs vs rest e.
-        let w = went-on (only (λ n. leb n most) number bs) (so-many r) (vs, rest) e in
-        let o = only-parts (λ n. leb n most) number bs (w .0 .0) (w .0 .1) (w .1) in
+        let w = went-on (only (λ n. leb n most) read-number bs) (so-many r) (vs, rest) e in
+        let o = only-parts (λ n. leb n most) read-number bs (w .0 .0) (w .0 .1) (w .1) in
         let n = number-reads .was-spelled bs (w .0 .0) (w .0 .1) (o .0) in
         let m = so-many-was-spelled reads (w .0 .0) (w .0 .1) vs rest (w .2) in
         (append-assoc (eight (length vs)) (flat s vs) rest ∙ ap (λ x. eight x ++ (flat s vs ++ rest)) (m .2) ∙ ap (λ x. eight (w .0 .0) ++ x) (m .0) ∙ n .0,
@@ -130,6 +130,6 @@ listed-reads {r = r} {s = s} {g = g} reads most small = record {
     is-read = λ vs rest t.
         let ts = and-parts (leb (length vs) most) (every g vs) t in
         let le = leb-true (length vs) most (ts .0) in
-        let n : number ((eight (length vs) ++ flat s vs) ++ rest) ≡ Some (length vs, flat s vs ++ rest) =
+        let n : read-number ((eight (length vs) ++ flat s vs) ++ rest) ≡ Some (length vs, flat s vs ++ rest) =
             rw append-assoc (number-reads .is-read (length vs) (flat s vs ++ rest) (lt-ltb (length vs) 18446744073709551616 (omega arith))) in
         rw (n, ts .0, so-many-is-read reads vs rest (ts .1)) }

@@ -47,95 +47,95 @@ by-kind rs [] = None
 by-kind rs (k ∷ bs) = getD rs k nothing bs
 
 -- The parts of a command.
-unfoldable pub byte : Reader ℕ
-byte [] = None
-byte (b ∷ bs) = Some (b, bs)
+unfoldable pub read-byte : Reader ℕ
+read-byte [] = None
+read-byte (b ∷ bs) = Some (b, bs)
 
 unfoldable pub first : ℕ → Reader (List ℕ)
 first n bs = pick (leb n (length bs)) (Some (take n bs, drop n bs)) None
 
-unfoldable pub number : Reader ℕ
-number = made (from-bytes 0) (only all-bytes (first 8))
+unfoldable pub read-number : Reader ℕ
+read-number = made (from-bytes 0) (only all-bytes (first 8))
 
 -- bytes with their count before them
-unfoldable pub counted : Reader (List ℕ)
-counted = then number first
+unfoldable pub read-counted : Reader (List ℕ)
+read-counted = then read-number first
 
 -- at most so many of something, with their count before them
 unfoldable pub listed : {A : Type 0} → ℕ → Reader A → Reader (List A)
-listed most r = then (only (λ n. leb n most) number) (so-many r)
+listed most r = then (only (λ n. leb n most) read-number) (so-many r)
 
-unfoldable pub name : Reader (List ℕ)
-name = only a-name counted
+unfoldable pub read-name : Reader (List ℕ)
+read-name = only a-name read-counted
 
-unfoldable pub letter : Reader (List ℕ)
-letter = only (λ bs. leb (length bs) 65000 && all-bytes bs) counted
+unfoldable pub read-letter : Reader (List ℕ)
+read-letter = only (λ bs. leb (length bs) 65000 && all-bytes bs) read-counted
 
-unfoldable pub house : Reader ℕ
-house = only (λ d. ltb d 16) number
+unfoldable pub read-house : Reader ℕ
+read-house = only (λ d. ltb d 16) read-number
 
-unfoldable pub person : Reader ℕ
-person = only (λ a. ltb a 64) number
+unfoldable pub read-person : Reader ℕ
+read-person = only (λ a. ltb a 64) read-number
 
 -- a person, and a box of theirs by its name
-abbrev pub mailbox : Reader (ℕ × List ℕ)
-mailbox = pair person name
+abbrev pub read-mailbox : Reader (ℕ × List ℕ)
+read-mailbox = pair read-person read-name
 
-unfoldable pub mark-number : Reader ℕ
-mark-number = only (λ m. ltb m 8) byte
+unfoldable pub read-mark : Reader ℕ
+read-mark = only (λ m. ltb m 8) read-byte
 
-unfoldable pub flag : Reader Bool
-flag = made (eqb 1) (only (λ b. ltb b 2) byte)
+unfoldable pub read-flag : Reader Bool
+read-flag = made (eqb 1) (only (λ b. ltb b 2) read-byte)
 
 -- a test, at most so many deep
-unfoldable pub test-of : ℕ → Reader Test
-test-of zero = nothing
-test-of (suc d) =
+unfoldable pub read-test : ℕ → Reader Test
+read-test zero = nothing
+read-test (suc d) =
     by-kind
         (given always
-        ∷ made (λ p. field-has (p .0) (p .1)) (pair name name)
-        ∷ made (λ p. field-is (p .0) (p .1)) (pair name name)
-        ∷ made longer number
-        ∷ made marked mark-number
-        ∷ made neither (test-of d)
-        ∷ made (λ p. both (p .0) (p .1)) (pair (test-of d) (test-of d))
-        ∷ made (λ p. either (p .0) (p .1)) (pair (test-of d) (test-of d))
+        ∷ made (λ p. field-has (p .0) (p .1)) (pair read-name read-name)
+        ∷ made (λ p. field-is (p .0) (p .1)) (pair read-name read-name)
+        ∷ made longer read-number
+        ∷ made marked read-mark
+        ∷ made neither (read-test d)
+        ∷ made (λ p. both (p .0) (p .1)) (pair (read-test d) (read-test d))
+        ∷ made (λ p. either (p .0) (p .1)) (pair (read-test d) (read-test d))
         ∷ [])
 
-unfoldable pub action-of : Reader Action
-action-of =
+unfoldable pub read-action : Reader Action
+read-action =
     by-kind
         (given keep
-        ∷ made file name
+        ∷ made file read-name
         ∷ given away
-        ∷ made (λ p. on-to (p .0) (p .1)) (pair house person)
-        ∷ made mark mark-number
+        ∷ made (λ p. on-to (p .0) (p .1)) (pair read-house read-person)
+        ∷ made mark read-mark
         ∷ given halt
         ∷ [])
 
-unfoldable pub rule-of : Reader Rule
-rule-of = made (λ p. record { test = p .0; acts = p .1 }) (pair (test-of 4) (listed 8 action-of))
+unfoldable pub read-rule : Reader Rule
+read-rule = made (λ p. record { test = p .0; acts = p .1 }) (pair (read-test 4) (listed 8 read-action))
 
-unfoldable pub rules-of : Reader (List Rule)
-rules-of = listed 32 rule-of
+unfoldable pub read-rules : Reader (List Rule)
+read-rules = listed 32 read-rule
 
-unfoldable pub front-command : Reader Command
-front-command =
+unfoldable pub read-command : Reader Command
+read-command =
     by-kind
         (nothing
-        ∷ made join name
-        ∷ made (λ p. hand-in (p .0) (p .1 .0) (p .1 .1)) (pair house (pair person letter))
-        ∷ made boxes person
-        ∷ made (λ p. new-box (p .0) (p .1)) mailbox
-        ∷ made (λ p. drop-box (p .0) (p .1)) mailbox
-        ∷ made (λ p. list (p .0 .0) (p .0 .1) (p .1 .0) (p .1 .1)) (pair mailbox (pair number (only (λ k. leb 1 k && leb k 1000) number)))
-        ∷ made (λ p. get (p .0 .0) (p .0 .1) (p .1 .0) (p .1 .1 .0) (p .1 .1 .1)) (pair mailbox (pair number (pair number (only (λ k. leb k 65536) number))))
-        ∷ made (λ p. set-mark (p .0 .0) (p .0 .1) (p .1 .0) (p .1 .1 .0) (p .1 .1 .1)) (pair mailbox (pair number (pair mark-number flag)))
-        ∷ made (λ p. to-box (p .0 .0) (p .0 .1) (p .1 .0) (p .1 .1)) (pair mailbox (pair number name))
-        ∷ made (λ p. clear (p .0) (p .1)) mailbox
-        ∷ made (λ p. rules (p .0) (p .1)) (pair person rules-of)
-        ∷ made (λ p. find (p .0 .0) (p .0 .1) (p .1)) (pair mailbox (test-of 4))
-        ∷ made push house
+        ∷ made join read-name
+        ∷ made (λ p. hand-in (p .0) (p .1 .0) (p .1 .1)) (pair read-house (pair read-person read-letter))
+        ∷ made boxes read-person
+        ∷ made (λ p. new-box (p .0) (p .1)) read-mailbox
+        ∷ made (λ p. drop-box (p .0) (p .1)) read-mailbox
+        ∷ made (λ p. list (p .0 .0) (p .0 .1) (p .1 .0) (p .1 .1)) (pair read-mailbox (pair read-number (only (λ k. leb 1 k && leb k 1000) read-number)))
+        ∷ made (λ p. get (p .0 .0) (p .0 .1) (p .1 .0) (p .1 .1 .0) (p .1 .1 .1)) (pair read-mailbox (pair read-number (pair read-number (only (λ k. leb k 65536) read-number))))
+        ∷ made (λ p. set-mark (p .0 .0) (p .0 .1) (p .1 .0) (p .1 .1 .0) (p .1 .1 .1)) (pair read-mailbox (pair read-number (pair read-mark read-flag)))
+        ∷ made (λ p. to-box (p .0 .0) (p .0 .1) (p .1 .0) (p .1 .1)) (pair read-mailbox (pair read-number read-name))
+        ∷ made (λ p. clear (p .0) (p .1)) read-mailbox
+        ∷ made (λ p. rules (p .0) (p .1)) (pair read-person read-rules)
+        ∷ made (λ p. find (p .0 .0) (p .0 .1) (p .1)) (pair read-mailbox (read-test 4))
+        ∷ made push read-house
         ∷ [])
 
 -- what is read if nothing is left over
@@ -151,4 +151,4 @@ abbrev pub whole : {A : Type 0} → Reader A → List ℕ → Option A
 whole r bs = all-used (r bs)
 
 unfoldable pub command-of : List ℕ → Option Command
-command-of text = whole front-command text
+command-of text = whole read-command text

@@ -17,7 +17,7 @@ use Rattle.commands.specs.Reader.{Reader, pair, only, by-kind, read-number, re
 use Rattle.commands.specs.Reads.{Reads}
 use Rattle.commands.proofs.Readers.{Reads-spelling, nothing-read, made-was-spelled, made-is-read, pair-reads, only-reads, same-some, whole-was-spelled, whole-is-read}
 use Rattle.commands.proofs.Numbers.{number-reads}
-use Rattle.commands.proofs.Parts.{fits-below, name-reads, letter-reads, house-reads, person-reads, mark-reads, flag-reads, test-reads, rules-reads}
+use Rattle.commands.proofs.Spellings.{fits-below, name-reads, letter-reads, house-reads, person-reads, mark-reads, flag-reads, test-reads, rules-reads}
 
 mailbox-reads : Reads-spelling read-mailbox (λ p. eight (p .0) ++ with-length (p .1)) (λ p. ltb (p .0) 64 && a-name (p .1))
 mailbox-reads = pair-reads person-reads name-reads

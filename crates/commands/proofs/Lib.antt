@@ -1,4 +1,6 @@
 pub mod Readers
 pub mod Numbers
-pub mod Parts
+pub mod Spellings
 pub mod Commands
+pub mod Bytes
+pub mod Laws

@@ -1,2 +1,3 @@
 pub mod Reader
 pub mod Reads
+pub mod Lent

@@ -1,0 +1,54 @@
+-- The readers of the definition, as the code meets them: what each answers in each case.
+use mathlib.Core.Path.{_≡_, refl, sym, ap, _∙_}
+use mathlib.Core.Bool.{Bool, true, false, _&&_}
+use mathlib.Core.List.{List, [], _∷_, _++_}
+use Prim.Native.Nat.{ℕ, zero, suc, _+_, _*_, _≤_, _<_}
+use native.Mathlib.Omega.{arith}
+use lib.Dec.{eqb, ltb, leb}
+use lib.ListN.{length, getD, take, drop}
+use Rattle.std.specs.declared.option.Option.{Option}
+use Rattle.std.specs.declared.option.Option.the-variants.{Some, None}
+use Rattle.std.proofs.shelf.Tests.{and-parts, and-from, lt-leb, le-leb, lt-ltb, le-ltb}
+use Rattle.std.proofs.shelf.Lists.{length-take-le}
+use Rattle.model.specs.Mail.{pick, all-bytes}
+use Rattle.model.specs.Promise.{from-bytes}
+use Rattle.commands.specs.Reader.{Reader, first, read-number}
+use Rattle.commands.proofs.Bytes.{all-bytes-take}
+
+pub first-short : (n : ℕ) (bs : List ℕ) → length bs < n → first n bs ≡ None
+unfolding first
+first-short n bs h = rw (lt-leb n (length bs) h)
+
+pub first-there : (n : ℕ) (bs : List ℕ) → n ≤ length bs → first n bs ≡ Some (take n bs, drop n bs)
+unfolding first
+first-there n bs h = rw (le-leb n (length bs) h)
+
+pub number-short : (bs : List ℕ) → length bs < 8 → read-number bs ≡ None
+unfolding read-number
+number-short bs h = rw (first-short 8 bs h)
+
+-- the number of eight digits, written out
+abbrev pub written-out : List ℕ → ℕ
+written-out ds = getD ds 0 0 * 72057594037927936 + getD ds 1 0 * 281474976710656 + getD ds 2 0 * 1099511627776 + getD ds 3 0 * 4294967296 + getD ds 4 0 * 16777216 + getD ds 5 0 * 65536 + getD ds 6 0 * 256 + getD ds 7 0
+
+eight-digits : (ds : List ℕ) → length ds ≡ 8 → from-bytes 0 ds ≡ written-out ds
+unfolding from-bytes
+eight-digits (a ∷ b ∷ c ∷ d ∷ e ∷ f ∷ g ∷ h ∷ []) l = omega arith
+eight-digits [] l = absurd (omega arith)
+eight-digits (a ∷ []) l = absurd (omega arith)
+eight-digits (a ∷ b ∷ []) l = absurd (omega arith)
+eight-digits (a ∷ b ∷ c ∷ []) l = absurd (omega arith)
+eight-digits (a ∷ b ∷ c ∷ d ∷ []) l = absurd (omega arith)
+eight-digits (a ∷ b ∷ c ∷ d ∷ e ∷ []) l = absurd (omega arith)
+eight-digits (a ∷ b ∷ c ∷ d ∷ e ∷ f ∷ []) l = absurd (omega arith)
+eight-digits (a ∷ b ∷ c ∷ d ∷ e ∷ f ∷ g ∷ []) l = absurd (omega arith)
+eight-digits (a ∷ b ∷ c ∷ d ∷ e ∷ f ∷ g ∷ h ∷ i ∷ ds) l = absurd (omega arith)
+
+pub number-there :
+    (bs ds rest : List ℕ) (n : ℕ) → all-bytes bs ≡ true → ds ≡ take 8 bs → rest ≡ drop 8 bs → length rest + 8 ≡ length bs → n ≡ written-out ds →
+    Some (n, rest) ≡ read-number bs
+unfolding read-number
+number-there bs ds rest n t d r l e =
+    let le : 8 ≤ length bs = omega arith in
+    let k : from-bytes 0 (take 8 bs) ≡ n = eight-digits (take 8 bs) (length-take-le 8 bs le) ∙ ap written-out (sym d) ∙ sym e in
+    sym (rw (first-there 8 bs le, all-bytes-take 8 bs t, k, r))

@@ -3,17 +3,23 @@ use mathlib.Core.Path.{_≡_, refl, sym, ap, _∙_}
 use mathlib.Core.Bool.{Bool, true, false, _&&_}
 use mathlib.Core.List.{List, [], _∷_, _++_}
 use Prim.Native.Nat.{ℕ, zero, suc, _+_, _*_, _≤_, _<_}
+use mathlib.Core.Logic.{_⊎_, inl, inr}
 use native.Mathlib.Omega.{arith}
+use denote.Ref.{RefT}
 use lib.Dec.{eqb, ltb, leb}
 use lib.ListN.{length, getD, take, drop}
 use Rattle.std.specs.declared.option.Option.{Option}
 use Rattle.std.specs.declared.option.Option.the-variants.{Some, None}
-use Rattle.std.proofs.shelf.Tests.{and-parts, and-from, lt-leb, le-leb, lt-ltb, le-ltb}
+use Rattle.std.specs.Options.{Cases}
+use Rattle.std.proofs.shelf.Tests.{and-parts, and-from, lt-leb, le-leb, eqb-true, eqb-false}
 use Rattle.std.proofs.shelf.Lists.{length-take-le}
-use Rattle.model.specs.Mail.{pick, all-bytes}
+use Rattle.model.specs.Mail.{pick, all-bytes, eight, with-length}
 use Rattle.model.specs.Promise.{from-bytes}
-use Rattle.commands.specs.Reader.{Reader, first, read-number}
-use Rattle.commands.proofs.Bytes.{all-bytes-take}
+use Rattle.commands.specs.Lent.{lent-and-rest}
+use Rattle.commands.specs.Reader.{Reader, first, read-number, read-counted, read-name, read-letter}
+use Rattle.commands.proofs.Bytes.{all-bytes-take, all-bytes-parts}
+use Rattle.commands.proofs.Readers.{Reads-spelling}
+use Rattle.commands.proofs.Numbers.{counted-reads}
 
 pub first-short : (n : ℕ) (bs : List ℕ) → length bs < n → first n bs ≡ None
 unfolding first
@@ -52,3 +58,37 @@ number-there bs ds rest n t d r l e =
     let le : 8 ≤ length bs = omega arith in
     let k : from-bytes 0 (take 8 bs) ≡ n = eight-digits (take 8 bs) (length-take-le 8 bs le) ∙ ap written-out (sym d) ∙ sym e in
     sym (rw (first-there 8 bs le, all-bytes-take 8 bs t, k, r))
+
+-- bytes that the code cuts off are the first of the definition
+pub split-first-bytes :
+    (r : Option (RefT (List ℕ) × RefT (List ℕ))) (n : ℕ) (bs : List ℕ) →
+    Cases r (length bs < n) (λ p. (n ≤ length bs) × (p .0 .now ≡ take n bs) × (p .1 .now ≡ drop n bs) × (length (p .0 .now) ≡ n) × (length (p .1 .now) + n ≡ length bs)) →
+    lent-and-rest r ≡ first n bs
+split-first-bytes None n bs h = sym (first-short n bs h)
+split-first-bytes (Some p) n bs h = sym (rw (first-there n bs (h .0), h .1, h .2))
+
+-- what was counted in a list of bytes is one
+counted-bytes : (bs v rest : List ℕ) → Some (v, rest) ≡ read-counted bs → all-bytes bs ≡ true → all-bytes v ≡ true
+counted-bytes bs v rest e t =
+    let h = counted-reads .was-spelled bs v rest (sym e) .0 in
+    let whole : all-bytes (with-length v ++ rest) ≡ true = rw h t in
+    all-bytes-parts (eight (length v)) v (all-bytes-parts (with-length v) rest whole .0) .1
+
+pub name-there : (bs v rest : List ℕ) → Some (v, rest) ≡ read-counted bs → all-bytes bs ≡ true → eqb (length v) 0 ≡ false → length v ≤ 64 → Some (v, rest) ≡ read-name bs
+unfolding read-name
+name-there bs v rest e t low high =
+    let ne = eqb-false (length v) 0 low in
+    sym (rw (sym e, le-leb 1 (length v) (omega arith), le-leb (length v) 64 high, counted-bytes bs v rest e t))
+
+pub name-refused : (bs v rest : List ℕ) → Some (v, rest) ≡ read-counted bs → (eqb (length v) 0 ≡ true) ⊎ (64 < length v) → None ≡ read-name bs
+unfolding read-name
+name-refused bs v rest e (inl h) = let z = eqb-true (length v) 0 h in sym (rw (sym e, lt-leb 1 (length v) (omega arith)))
+name-refused bs v rest e (inr h) = sym (rw (sym e, le-leb 1 (length v) (omega arith), lt-leb (length v) 64 h))
+
+pub letter-there : (bs v rest : List ℕ) → Some (v, rest) ≡ read-counted bs → all-bytes bs ≡ true → length v ≤ 65000 → Some (v, rest) ≡ read-letter bs
+unfolding read-letter
+letter-there bs v rest e t high = sym (rw (sym e, le-leb (length v) 65000 high, counted-bytes bs v rest e t))
+
+pub letter-refused : (bs v rest : List ℕ) → Some (v, rest) ≡ read-counted bs → 65000 < length v → None ≡ read-letter bs
+unfolding read-letter
+letter-refused bs v rest e h = sym (rw (sym e, lt-leb (length v) 65000 h))

@@ -2,7 +2,8 @@
 use mathlib.Core.Path.{_≡_, refl, sym, ap, _∙_}
 use mathlib.Core.Bool.{Bool, true, false, _&&_}
 use mathlib.Core.List.{List, [], _∷_, _++_}
-use Prim.Native.Nat.{ℕ, zero, suc, _+_, _*_, _≤_, _<_}
+use Prim.Native.Nat.{ℕ, zero, suc, _+_, _-_, _*_, _≤_, _<_}
+use native.Mathlib.Numerals.{sub-one}
 use mathlib.Core.Logic.{_⊎_, inl, inr}
 use native.Mathlib.Omega.{arith}
 use denote.Ref.{RefT}
@@ -12,13 +13,13 @@ use Rattle.std.specs.declared.option.Option.{Option}
 use Rattle.std.specs.declared.option.Option.the-variants.{Some, None}
 use Rattle.std.specs.Options.{Cases}
 use Rattle.std.proofs.shelf.Tests.{and-parts, and-from, lt-leb, le-leb, eqb-true, eqb-false}
-use Rattle.std.proofs.shelf.Lists.{length-take-le}
+use Rattle.std.proofs.shelf.Lists.{length-take-le, getD-past}
 use Rattle.model.specs.Mail.{pick, all-bytes, eight, with-length}
 use Rattle.model.specs.Promise.{from-bytes}
-use Rattle.commands.specs.Lent.{lent-and-rest}
-use Rattle.commands.specs.Reader.{Reader, first, read-number, read-counted, read-name, read-letter}
+use Rattle.commands.specs.Lent.{lent-and-rest, left-after}
+use Rattle.commands.specs.Reader.{Reader, first, read-number, read-counted, read-name, read-letter, given, go-on, made, by-kind, nothing, only, so-many, listed, test-kinds, read-test}
 use Rattle.commands.proofs.Bytes.{all-bytes-take, all-bytes-parts}
-use Rattle.commands.proofs.Readers.{Reads-spelling}
+use Rattle.commands.proofs.Readers.{Reads-spelling, nothing-read, same-some}
 use Rattle.commands.proofs.Numbers.{counted-reads}
 
 pub first-short : (n : ℕ) (bs : List ℕ) → length bs < n → first n bs ≡ None
@@ -92,3 +93,57 @@ letter-there bs v rest e t high = sym (rw (sym e, le-leb (length v) 65000 high, 
 pub letter-refused : (bs v rest : List ℕ) → Some (v, rest) ≡ read-counted bs → 65000 < length v → None ≡ read-letter bs
 unfolding read-letter
 letter-refused bs v rest e h = sym (rw (sym e, lt-leb (length v) 65000 h))
+
+pub no-such-kind : {A : Type 0} (rs : List (Reader A)) (bs : List ℕ) (k : ℕ) (rest : List ℕ) → bs ≡ k ∷ rest → length rs ≤ k → by-kind rs bs ≡ None
+unfolding by-kind
+no-such-kind rs bs k rest e h = rw (e, getD-past rs k nothing h)
+
+pub test-at : (d : ℕ) (bs : List ℕ) → 0 < d → read-test d bs ≡ by-kind (test-kinds (read-test (d - 1))) bs
+unfolding read-test
+test-at zero bs h = absurd (omega arith)
+test-at (suc d) bs h = rw (sub-one (suc d))
+
+-- so many of something, one at a time, by what is left after each
+pub so-many-more : {A : Type 0} (r : Reader A) (n : ℕ) (bs mid : List ℕ) → Some mid ≡ left-after (r bs) → left-after (so-many r (suc n) bs) ≡ left-after (so-many r n mid)
+unfolding so-many
+so-many-more {A = A} r n bs mid e = go (r bs) (so-many r n) e
+  where
+    rest-of-list : (a : A) (o : Option (List A × List ℕ)) → left-after (go-on {A = A × List A} (go-on o (λ b. given (a, b))) (λ p. given (p .0 ∷ p .1))) ≡ left-after o
+    rest-of-list a None = refl
+    rest-of-list a (Some p) = refl
+
+    go : (o : Option (A × List ℕ)) (s : Reader (List A)) → Some mid ≡ left-after o →
+        left-after (go-on {A = A × List A} (go-on o (λ a. made (λ b. (a, b)) s)) (λ p. given (p .0 ∷ p .1))) ≡ left-after (s mid)
+    go None s e = nothing-read mid (sym e)
+    go (Some p) s e = rest-of-list (p .0) (s (p .1)) ∙ ap (λ x. left-after (s x)) (sym (same-some mid (p .1) e))
+
+pub so-many-stops : {A : Type 0} (r : Reader A) (n : ℕ) (bs : List ℕ) → None ≡ left-after (r bs) → left-after (so-many r (suc n) bs) ≡ None
+unfolding so-many
+so-many-stops {A = A} r n bs e = go (r bs) (so-many r n) e
+  where
+    go : (o : Option (A × List ℕ)) (s : Reader (List A)) → None ≡ left-after o →
+        left-after (go-on {A = A × List A} (go-on o (λ a. made (λ b. (a, b)) s)) (λ p. given (p .0 ∷ p .1))) ≡ None
+    go None s e = refl
+    go (Some p) s e = nothing-read (p .1) e
+
+-- a loop over so many of something: what is still to be read leaves what all of them leave
+module _ {A : Type 0} (r : Reader A) (n i : ℕ) (bs : List ℕ) (end : Option (List ℕ)) (so-far : left-after (so-many r (n - i) bs) ≡ end) where
+  pub many-again : (mid : List ℕ) → i < n → Some mid ≡ left-after (r bs) → left-after (so-many r (n - (i + 1)) mid) ≡ end
+  many-again mid h e =
+      let k : n - i ≡ suc (n - (i + 1)) = omega arith in
+      sym (so-many-more r (n - (i + 1)) bs mid e) ∙ ap (λ m. left-after (so-many r m bs)) (sym k) ∙ so-far
+
+  pub many-stop : i < n → None ≡ left-after (r bs) → None ≡ end
+  many-stop h e =
+      let k : n - i ≡ suc (n - (i + 1)) = omega arith in
+      sym (so-many-stops r (n - (i + 1)) bs e) ∙ ap (λ m. left-after (so-many r m bs)) (sym k) ∙ so-far
+
+  pub many-end : n ≤ i → Some bs ≡ end
+  unfolding so-many
+  many-end h = let k : 0 ≡ n - i = omega arith in ap (λ m. left-after (so-many r m bs)) k ∙ so-far
+
+pub many-at-first :
+    {A : Type 0} (most : ℕ) (r : Reader A) (bs : List ℕ) (n : ℕ) (rest : List ℕ) →
+    Some (n, rest) ≡ only (λ n. leb n most) read-number bs → left-after (so-many r (n - 0) rest) ≡ left-after (listed most r bs)
+unfolding listed
+many-at-first most r bs n rest e = let z : n - 0 ≡ n = omega arith in rw z (ap (λ o. left-after (go-on o (so-many r))) e)

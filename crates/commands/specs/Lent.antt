@@ -14,3 +14,8 @@ and-rest (Some p) = Some (p .0, p .1 .now)
 abbrev pub lent-and-rest : Option (RefT (List ℕ) × RefT (List ℕ)) → Option (List ℕ × List ℕ)
 lent-and-rest None = None
 lent-and-rest (Some p) = Some (p .0 .now, p .1 .now)
+
+-- what is left after what was read
+abbrev pub left-after : {A : Type 0} → Option (A × List ℕ) → Option (List ℕ)
+left-after None = None
+left-after (Some p) = Some (p .1)

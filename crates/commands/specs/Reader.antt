@@ -87,20 +87,23 @@ read-mark = only (λ m. ltb m 8) read-byte
 unfoldable pub read-flag : Reader Bool
 read-flag = made (eqb 1) (only (λ b. ltb b 2) read-byte)
 
+-- the kinds of tests, by a reader of the tests that they hold
+abbrev pub test-kinds : Reader Test → List (Reader Test)
+test-kinds below =
+    given always
+    ∷ made (λ p. field-has (p .0) (p .1)) (pair read-name read-name)
+    ∷ made (λ p. field-is (p .0) (p .1)) (pair read-name read-name)
+    ∷ made longer read-number
+    ∷ made marked read-mark
+    ∷ made neither below
+    ∷ made (λ p. both (p .0) (p .1)) (pair below below)
+    ∷ made (λ p. either (p .0) (p .1)) (pair below below)
+    ∷ []
+
 -- a test, at most so many deep
 unfoldable pub read-test : ℕ → Reader Test
 read-test zero = nothing
-read-test (suc d) =
-    by-kind
-        (given always
-        ∷ made (λ p. field-has (p .0) (p .1)) (pair read-name read-name)
-        ∷ made (λ p. field-is (p .0) (p .1)) (pair read-name read-name)
-        ∷ made longer read-number
-        ∷ made marked read-mark
-        ∷ made neither (read-test d)
-        ∷ made (λ p. both (p .0) (p .1)) (pair (read-test d) (read-test d))
-        ∷ made (λ p. either (p .0) (p .1)) (pair (read-test d) (read-test d))
-        ∷ [])
+read-test (suc d) = by-kind (test-kinds (read-test d))
 
 unfoldable pub read-action : Reader Action
 read-action =

@@ -15,6 +15,11 @@ abbrev pub lent-and-rest : Option (RefT (List ℕ) × RefT (List ℕ)) → Optio
 lent-and-rest None = None
 lent-and-rest (Some p) = Some (p .0 .now, p .1 .now)
 
+-- a number and lent bytes, and the lent bytes that follow them
+abbrev pub both-and-rest : Option ((ℕ × RefT (List ℕ)) × RefT (List ℕ)) → Option ((ℕ × List ℕ) × List ℕ)
+both-and-rest None = None
+both-and-rest (Some p) = Some ((p .0 .0, p .0 .1 .now), p .1 .now)
+
 -- what is left after what was read
 abbrev pub left-after : {A : Type 0} → Option (A × List ℕ) → Option (List ℕ)
 left-after None = None

@@ -122,23 +122,63 @@ read-rule = made (λ p. record { test = p .0; acts = p .1 }) (pair (read-test 4)
 unfoldable pub read-rules : Reader (List Rule)
 read-rules = listed 32 read-rule
 
+-- The kinds of commands, each after its first byte.
+abbrev pub read-join : Reader Command
+read-join = made join read-name
+
+abbrev pub read-hand-in : Reader Command
+read-hand-in = made (λ p. hand-in (p .0) (p .1 .0) (p .1 .1)) (pair read-house (pair read-person read-letter))
+
+abbrev pub read-boxes : Reader Command
+read-boxes = made boxes read-person
+
+abbrev pub read-new-box : Reader Command
+read-new-box = made (λ p. new-box (p .0) (p .1)) read-mailbox
+
+abbrev pub read-drop-box : Reader Command
+read-drop-box = made (λ p. drop-box (p .0) (p .1)) read-mailbox
+
+abbrev pub read-list : Reader Command
+read-list = made (λ p. list (p .0 .0) (p .0 .1) (p .1 .0) (p .1 .1)) (pair read-mailbox (pair read-number (only (λ k. leb 1 k && leb k 1000) read-number)))
+
+abbrev pub read-get : Reader Command
+read-get = made (λ p. get (p .0 .0) (p .0 .1) (p .1 .0) (p .1 .1 .0) (p .1 .1 .1)) (pair read-mailbox (pair read-number (pair read-number (only (λ k. leb k 65536) read-number))))
+
+abbrev pub read-set-mark : Reader Command
+read-set-mark = made (λ p. set-mark (p .0 .0) (p .0 .1) (p .1 .0) (p .1 .1 .0) (p .1 .1 .1)) (pair read-mailbox (pair read-number (pair read-mark read-flag)))
+
+abbrev pub read-to-box : Reader Command
+read-to-box = made (λ p. to-box (p .0 .0) (p .0 .1) (p .1 .0) (p .1 .1)) (pair read-mailbox (pair read-number read-name))
+
+abbrev pub read-clear : Reader Command
+read-clear = made (λ p. clear (p .0) (p .1)) read-mailbox
+
+abbrev pub read-rule-set : Reader Command
+read-rule-set = made (λ p. rules (p .0) (p .1)) (pair read-person read-rules)
+
+abbrev pub read-find : Reader Command
+read-find = made (λ p. find (p .0 .0) (p .0 .1) (p .1)) (pair read-mailbox (read-test 4))
+
+abbrev pub read-push : Reader Command
+read-push = made push read-house
+
 unfoldable pub read-command : Reader Command
 read-command =
     by-kind
         (nothing
-        ∷ made join read-name
-        ∷ made (λ p. hand-in (p .0) (p .1 .0) (p .1 .1)) (pair read-house (pair read-person read-letter))
-        ∷ made boxes read-person
-        ∷ made (λ p. new-box (p .0) (p .1)) read-mailbox
-        ∷ made (λ p. drop-box (p .0) (p .1)) read-mailbox
-        ∷ made (λ p. list (p .0 .0) (p .0 .1) (p .1 .0) (p .1 .1)) (pair read-mailbox (pair read-number (only (λ k. leb 1 k && leb k 1000) read-number)))
-        ∷ made (λ p. get (p .0 .0) (p .0 .1) (p .1 .0) (p .1 .1 .0) (p .1 .1 .1)) (pair read-mailbox (pair read-number (pair read-number (only (λ k. leb k 65536) read-number))))
-        ∷ made (λ p. set-mark (p .0 .0) (p .0 .1) (p .1 .0) (p .1 .1 .0) (p .1 .1 .1)) (pair read-mailbox (pair read-number (pair read-mark read-flag)))
-        ∷ made (λ p. to-box (p .0 .0) (p .0 .1) (p .1 .0) (p .1 .1)) (pair read-mailbox (pair read-number read-name))
-        ∷ made (λ p. clear (p .0) (p .1)) read-mailbox
-        ∷ made (λ p. rules (p .0) (p .1)) (pair read-person read-rules)
-        ∷ made (λ p. find (p .0 .0) (p .0 .1) (p .1)) (pair read-mailbox (read-test 4))
-        ∷ made push read-house
+        ∷ read-join
+        ∷ read-hand-in
+        ∷ read-boxes
+        ∷ read-new-box
+        ∷ read-drop-box
+        ∷ read-list
+        ∷ read-get
+        ∷ read-set-mark
+        ∷ read-to-box
+        ∷ read-clear
+        ∷ read-rule-set
+        ∷ read-find
+        ∷ read-push
         ∷ [])
 
 -- what is read if nothing is left over

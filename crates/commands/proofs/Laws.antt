@@ -17,7 +17,7 @@ use Rattle.std.proofs.shelf.Lists.{length-take-le, getD-past}
 use Rattle.model.specs.Mail.{pick, all-bytes, eight, with-length}
 use Rattle.model.specs.Promise.{from-bytes}
 use Rattle.commands.specs.Lent.{lent-and-rest, left-after}
-use Rattle.commands.specs.Reader.{Reader, first, read-number, read-counted, read-name, read-letter, given, go-on, made, by-kind, nothing, only, so-many, listed, test-kinds, read-test}
+use Rattle.commands.specs.Reader.{Reader, first, read-number, read-counted, read-name, read-letter, given, go-on, made, by-kind, nothing, only, so-many, listed, test-kinds, read-test, command-kinds, read-command, all-used, command-of}
 use Rattle.commands.proofs.Bytes.{all-bytes-take, all-bytes-parts}
 use Rattle.commands.proofs.Readers.{Reads-spelling, nothing-read, same-some}
 use Rattle.commands.proofs.Numbers.{counted-reads}
@@ -147,3 +147,8 @@ pub many-at-first :
     Some (n, rest) ≡ only (λ n. leb n most) read-number bs → left-after (so-many r (n - 0) rest) ≡ left-after (listed most r bs)
 unfolding listed
 many-at-first most r bs n rest e = let z : n - 0 ≡ n = omega arith in rw z (ap (λ o. left-after (go-on o (so-many r))) e)
+
+pub no-such-command : (k : ℕ) (text bytes : List ℕ) → text ≡ k ∷ bytes → (0 < k → 14 ≤ k) → command-of text ≡ None
+unfolding command-of read-command by-kind
+no-such-command zero text bytes e h = rw e
+no-such-command (suc k) text bytes e h = ap all-used (no-such-kind command-kinds text (suc k) bytes e (h (omega arith)))

@@ -4,3 +4,4 @@ pub mod Spellings
 pub mod Commands
 pub mod Bytes
 pub mod Laws
+pub mod Meanings

@@ -105,16 +105,18 @@ unfoldable pub read-test : ℕ → Reader Test
 read-test zero = nothing
 read-test (suc d) = by-kind (test-kinds (read-test d))
 
+abbrev pub action-kinds : List (Reader Action)
+action-kinds =
+    given keep
+    ∷ made file read-name
+    ∷ given away
+    ∷ made (λ p. on-to (p .0) (p .1)) (pair read-house read-person)
+    ∷ made mark read-mark
+    ∷ given halt
+    ∷ []
+
 unfoldable pub read-action : Reader Action
-read-action =
-    by-kind
-        (given keep
-        ∷ made file read-name
-        ∷ given away
-        ∷ made (λ p. on-to (p .0) (p .1)) (pair read-house read-person)
-        ∷ made mark read-mark
-        ∷ given halt
-        ∷ [])
+read-action = by-kind action-kinds
 
 unfoldable pub read-rule : Reader Rule
 read-rule = made (λ p. record { test = p .0; acts = p .1 }) (pair (read-test 4) (listed 8 read-action))
@@ -162,24 +164,26 @@ read-find = made (λ p. find (p .0 .0) (p .0 .1) (p .1)) (pair read-mailbox (rea
 abbrev pub read-push : Reader Command
 read-push = made push read-house
 
+abbrev pub command-kinds : List (Reader Command)
+command-kinds =
+    nothing
+    ∷ read-join
+    ∷ read-hand-in
+    ∷ read-boxes
+    ∷ read-new-box
+    ∷ read-drop-box
+    ∷ read-list
+    ∷ read-get
+    ∷ read-set-mark
+    ∷ read-to-box
+    ∷ read-clear
+    ∷ read-rule-set
+    ∷ read-find
+    ∷ read-push
+    ∷ []
+
 unfoldable pub read-command : Reader Command
-read-command =
-    by-kind
-        (nothing
-        ∷ read-join
-        ∷ read-hand-in
-        ∷ read-boxes
-        ∷ read-new-box
-        ∷ read-drop-box
-        ∷ read-list
-        ∷ read-get
-        ∷ read-set-mark
-        ∷ read-to-box
-        ∷ read-clear
-        ∷ read-rule-set
-        ∷ read-find
-        ∷ read-push
-        ∷ [])
+read-command = by-kind command-kinds
 
 -- what is read if nothing is left over
 abbrev pub no-more : {A : Type 0} → A → List ℕ → Option A

@@ -8,14 +8,7 @@ ghost use Rattle.commands.specs.Reader.{no-more, whole, only, read-number, rea
 ghost use Rattle.commands.specs.Reader.{read-join, read-hand-in, read-boxes, read-new-box, read-drop-box, read-list, read-get};
 ghost use Rattle.commands.specs.Reader.{read-set-mark, read-to-box, read-clear, read-rule-set, read-find, read-push, command-of};
 use crate::Command;
-use crate::parts::flag;
-use crate::parts::house;
-use crate::parts::letter;
-use crate::parts::mark;
-use crate::parts::name;
-use crate::parts::number;
-use crate::parts::number_up_to;
-use crate::parts::person;
+use crate::parts;
 use crate::rules::DEEPEST_TEST;
 use crate::rules::after_rules;
 use crate::rules::after_test;
@@ -50,8 +43,8 @@ fn complete<'a>(command: Command<'a>, rest: &[u8]) -> Option<Command<'a>>
 fn mailbox(bytes: &[u8]) -> Option<((u64, &[u8]), &[u8])>
     ensures { λ r. ⌜ both-and-rest r ≡ read-mailbox (now (bytes .entry)) ⌝ }
 {
-    let (person, rest) = person(bytes)?;
-    let (name, rest) = name(rest)?;
+    let (person, rest) = parts::person(bytes)?;
+    let (name, rest) = parts::name(rest)?;
     Some(((person, name), rest))
 }
 
@@ -59,30 +52,30 @@ fn mailbox(bytes: &[u8]) -> Option<((u64, &[u8]), &[u8])>
 fn list_count(bytes: &[u8]) -> Option<(u64, &[u8])>
     ensures { λ r. ⌜ and-rest r ≡ only (λ k. leb 1 k && leb k 1000) read-number (now (bytes .entry)) ⌝ }
 {
-    let (count, rest) = number(bytes)?;
+    let (count, rest) = parts::number(bytes)?;
     if 1 <= count && count <= MOST_LISTED { Some((count, rest)) } else { None }
 }
 
 fn join(bytes: &[u8]) -> Option<Command<'_>>
     ensures { λ r. ⌜ Answers r (whole read-join (now (bytes .entry))) ⌝ }
 {
-    let (name, rest) = name(bytes)?;
+    let (name, rest) = parts::name(bytes)?;
     complete(Command::Join { name }, rest)
 }
 
 fn hand_in(bytes: &[u8]) -> Option<Command<'_>>
     ensures { λ r. ⌜ Answers r (whole read-hand-in (now (bytes .entry))) ⌝ }
 {
-    let (house, rest) = house(bytes)?;
-    let (person, rest) = person(rest)?;
-    let (letter, rest) = letter(rest)?;
+    let (house, rest) = parts::house(bytes)?;
+    let (person, rest) = parts::person(rest)?;
+    let (letter, rest) = parts::letter(rest)?;
     complete(Command::HandIn { house, person, letter }, rest)
 }
 
 fn boxes(bytes: &[u8]) -> Option<Command<'_>>
     ensures { λ r. ⌜ Answers r (whole read-boxes (now (bytes .entry))) ⌝ }
 {
-    let (person, rest) = person(bytes)?;
+    let (person, rest) = parts::person(bytes)?;
     complete(Command::Boxes { person }, rest)
 }
 
@@ -104,7 +97,7 @@ fn list(bytes: &[u8]) -> Option<Command<'_>>
     ensures { λ r. ⌜ Answers r (whole read-list (now (bytes .entry))) ⌝ }
 {
     let ((person, mailbox), rest) = mailbox(bytes)?;
-    let (from, rest) = number(rest)?;
+    let (from, rest) = parts::number(rest)?;
     let (count, rest) = list_count(rest)?;
     complete(Command::List { person, mailbox, from, count }, rest)
 }
@@ -113,19 +106,19 @@ fn get(bytes: &[u8]) -> Option<Command<'_>>
     ensures { λ r. ⌜ Answers r (whole read-get (now (bytes .entry))) ⌝ }
 {
     let ((person, mailbox), rest) = mailbox(bytes)?;
-    let (number_in_box, rest) = number(rest)?;
-    let (from, rest) = number(rest)?;
-    let (count, rest) = number_up_to(rest, MOST_BYTES)?;
-    complete(Command::Get { person, mailbox, number: number_in_box, from, count }, rest)
+    let (number, rest) = parts::number(rest)?;
+    let (from, rest) = parts::number(rest)?;
+    let (count, rest) = parts::number_up_to(rest, MOST_BYTES)?;
+    complete(Command::Get { person, mailbox, number, from, count }, rest)
 }
 
 fn set_mark(bytes: &[u8]) -> Option<Command<'_>>
     ensures { λ r. ⌜ Answers r (whole read-set-mark (now (bytes .entry))) ⌝ }
 {
     let ((person, mailbox), rest) = mailbox(bytes)?;
-    let (number, rest) = number(rest)?;
-    let (mark, rest) = mark(rest)?;
-    let (on, rest) = flag(rest)?;
+    let (number, rest) = parts::number(rest)?;
+    let (mark, rest) = parts::mark(rest)?;
+    let (on, rest) = parts::flag(rest)?;
     complete(Command::SetMark { person, mailbox, number, mark, on }, rest)
 }
 
@@ -133,8 +126,8 @@ fn to_box(bytes: &[u8]) -> Option<Command<'_>>
     ensures { λ r. ⌜ Answers r (whole read-to-box (now (bytes .entry))) ⌝ }
 {
     let ((person, mailbox), rest) = mailbox(bytes)?;
-    let (number, rest) = number(rest)?;
-    let (other, rest) = name(rest)?;
+    let (number, rest) = parts::number(rest)?;
+    let (other, rest) = parts::name(rest)?;
     complete(Command::ToBox { person, mailbox, number, other }, rest)
 }
 
@@ -148,7 +141,7 @@ fn clear(bytes: &[u8]) -> Option<Command<'_>>
 fn rule_set(bytes: &[u8]) -> Option<Command<'_>>
     ensures { λ r. ⌜ Answers r (whole read-rule-set (now (bytes .entry))) ⌝ }
 {
-    let (person, rules) = person(bytes)?;
+    let (person, rules) = parts::person(bytes)?;
     complete(Command::Rules { person, rules }, after_rules(rules)?)
 }
 
@@ -162,7 +155,7 @@ fn find(bytes: &[u8]) -> Option<Command<'_>>
 fn push(bytes: &[u8]) -> Option<Command<'_>>
     ensures { λ r. ⌜ Answers r (whole read-push (now (bytes .entry))) ⌝ }
 {
-    let (house, rest) = house(bytes)?;
+    let (house, rest) = parts::house(bytes)?;
     complete(Command::Push { house }, rest)
 }
 

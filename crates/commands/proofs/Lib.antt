@@ -1,0 +1,7 @@
+pub mod Readers
+pub mod Numbers
+pub mod Spellings
+pub mod Commands
+pub mod Bytes
+pub mod Laws
+pub mod Meanings

@@ -1,0 +1,4 @@
+pub mod Reader
+pub mod Reads
+pub mod Lent
+pub mod Meaning

@@ -1,0 +1,155 @@
+// One house at work: its memory, and the acts of a command, one after another.
+ghost use mathlib.Core.Path.{_≡_};
+ghost use Prim.Native.Nat.{ℕ, _≤_, _<_};
+ghost use lib.ListN.{length};
+ghost use Rattle.std.specs.Of.Vec.{vec-len};
+use super::Disk;
+use super::PAGE_LEN;
+use house::MEMORY_LEN;
+use house::OUT_LEN;
+use house::Told;
+use house::kind;
+use house::step;
+use std::alloc::AllocError;
+use std::alloc::Global;
+use std::fmt;
+use std::io;
+
+// Where the rows go that a command shows.
+pub trait Rows {
+    fn show(&mut self, row: &[u8]) -> io::Result<()>;
+}
+
+// How a command ended.
+#[derive(Clone, Copy, PartialEq, Eq)]
+pub enum Ended {
+    Done,
+    Refused(u64),
+}
+
+// What keeps a command from its end.
+#[derive(Drop)]
+pub enum Fault {
+    Io(io::Error),
+    // The house asked for a page that there isn't.
+    NoSuchPage(u64),
+    // The house showed more bytes than the row has.
+    LongRow(u64),
+    // It never came to an end.
+    Endless,
+}
+
+impl From<io::Error> for Fault as IoFault {
+    fn from(e: io::Error) -> Fault {
+        Fault::Io(e)
+    }
+}
+
+pub impl fmt::Display for Fault as FaultDisplay {
+    fn fmt<W: fmt::Write>(&self, f: &mut fmt::Formatter<W>) -> fmt::Result {
+        match self {
+            Fault::Io(e) => write!(f, "{e}"),
+            Fault::NoSuchPage(page) => write!(f, "the house asked for page {page}, which is not there"),
+            Fault::LongRow(len) => write!(f, "the house showed a row of {len} bytes"),
+            Fault::Endless => write!(f, "the command did not end"),
+        }
+    }
+}
+
+// A house's memory, the row that a step lends for pages and rows, and the page that was read last.
+#[derive(Drop)]
+pub struct Machine {
+    memory: Vec<u64>,
+    row: Vec<u8>,
+    page: Vec<u8>,
+    ghost sized: { (vec-len memory ≡ 262144) × (vec-len row ≡ 131072) × (vec-len page ≡ 512) },
+}
+
+impl Machine {
+    // A house without power: its memory is all 0.
+    pub fn new(heap: Global) -> Result<Machine, AllocError> {
+        let memory = vec![in heap; 0; MEMORY_LEN]?;
+        let row = vec![in heap; 0; OUT_LEN]?;
+        let page = vec![in heap; 0; PAGE_LEN]?;
+        Ok(Machine { memory, row, page })
+    }
+
+    fn tell(&mut self, kind: u64, bytes: &[u8]) -> Told {
+        step(self.memory.as_mut_slice(), kind, bytes, self.row.as_mut_slice())
+    }
+
+    fn tell_page(&mut self) -> Told {
+        step(self.memory.as_mut_slice(), kind::PAGE, self.page.as_slice(), self.row.as_mut_slice())
+    }
+
+    // Does one act, and tells the house what came of it.
+    fn act<D: Disk, R: Rows>(&mut self, told: Told, disk: &mut D, rows: &mut R) -> Result<Told, Fault>
+        ensures { λ _. ⌜ D·Disk .size (now (disk .exit)) ≡ D·Disk .size (now (disk .entry)) ⌝ }
+    {
+        match told {
+            Told::Read(page) => {
+                if page >= disk.pages() {
+                    return Err(Fault::NoSuchPage(page));
+                }
+                disk.read_page(page, self.page.as_mut_slice())?;
+                Ok(self.tell_page())
+            }
+            Told::Write(page) => {
+                if page >= disk.pages() {
+                    return Err(Fault::NoSuchPage(page));
+                }
+                disk.write_page(page, &self.row[0..PAGE_LEN])?;
+                Ok(self.tell(kind::NEXT, &[]))
+            }
+            Told::Flush => {
+                disk.sync()?;
+                Ok(self.tell(kind::NEXT, &[]))
+            }
+            Told::Shows(len) => {
+                if len > OUT_LEN as u64 {
+                    return Err(Fault::LongRow(len));
+                }
+                rows.show(&self.row[0..len as usize])?;
+                Ok(self.tell(kind::NEXT, &[]))
+            }
+            Told::Send(_) => Ok(self.tell(kind::LOST, &[])),
+            Told::Done | Told::No(_) => Ok(told),
+        }
+    }
+
+    // Goes on from an act to the end of the command.
+    fn finish<D: Disk, R: Rows>(&mut self, first: Told, disk: &mut D, rows: &mut R) -> Result<Ended, Fault>
+        ensures { λ _. ⌜ D·Disk .size (now (disk .exit)) ≡ D·Disk .size (now (disk .entry)) ⌝ }
+    {
+        let mut told = first;
+        for _ in 0..u64::MAX {
+            match told {
+                Told::Done => return Ok(Ended::Done),
+                Told::No(number) => return Ok(Ended::Refused(number)),
+                _ => told = self.act(told, disk, rows)?,
+            }
+        }
+        Err(Fault::Endless)
+    }
+
+    // Power comes to a house that has none: its number, and how many houses there are.
+    pub fn power<D: Disk, R: Rows>(&mut self, house: u64, houses: u64, disk: &mut D, rows: &mut R) -> Result<Ended, Fault>
+        ensures { λ _. ⌜ D·Disk .size (now (disk .exit)) ≡ D·Disk .size (now (disk .entry)) ⌝ }
+    {
+        self.memory.as_mut_slice().fill(0);
+        let mut numbers = [0u8; 24];
+        numbers[0..8].copy_from_slice(&house.to_be_bytes());
+        numbers[8..16].copy_from_slice(&houses.to_be_bytes());
+        numbers[16..24].copy_from_slice(&disk.pages().to_be_bytes());
+        let first = self.tell(kind::POWER, &numbers);
+        self.finish(first, disk, rows)
+    }
+
+    // Says a command to the house, and does what it asks for until the command ends.
+    pub fn command<D: Disk, R: Rows>(&mut self, text: &[u8], disk: &mut D, rows: &mut R) -> Result<Ended, Fault>
+        ensures { λ _. ⌜ D·Disk .size (now (disk .exit)) ≡ D·Disk .size (now (disk .entry)) ⌝ }
+    {
+        let first = self.tell(kind::SAID, text);
+        self.finish(first, disk, rows)
+    }
+}

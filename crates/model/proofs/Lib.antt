@@ -1,1 +1,4 @@
 pub mod Known
+pub mod Places
+pub mod Device
+pub mod Delivery

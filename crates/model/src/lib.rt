@@ -1,9 +1,28 @@
 // The plain houses, the pages that they lie on, how a house runs, and what all of them promise: definitions in specs/, and here what
 // holds of them, each statement on the contract of a function. It knows nothing of how a house keeps what it has.
 ghost use Rattle.model.specs.Known.{Core-from-nothing};
+ghost use Rattle.model.specs.Promise.{Ends, Others-stay, Flushed-stays};
 
 // The set of known commands grows one kind at a time, from none to the small core.
 pub fn core_from_nothing()
     ensures { λ _. ⌜ Core-from-nothing ⌝ }
+{
+}
+
+// A letter that may be passed on n times is passed on n times at most.
+pub fn ends()
+    ensures { λ _. ⌜ Ends ⌝ }
+{
+}
+
+// A mark changes nothing of anybody else.
+pub fn others_stay()
+    ensures { λ _. ⌜ Others-stay ⌝ }
+{
+}
+
+// What was flushed stays, whatever a stop leaves of later writes to other pages.
+pub fn flushed_stays()
+    ensures { λ _. ⌜ Flushed-stays ⌝ }
 {
 }

@@ -1,0 +1,108 @@
+-- Places in lists: the lists of people, ways, houses and pages are lists as in the library, so that its laws hold of them; and what holds of each element.
+use mathlib.Core.Path.{_≡_, refl, sym, ap, _∙_}
+use mathlib.Core.Bool.{Bool, true, false, _&&_, not, false≢true}
+use mathlib.Core.List.{List, [], _∷_, _++_}
+use mathlib.Core.Logic.{_≢_}
+use Prim.Native.Nat.{ℕ, zero, suc, _+_, _≤_, _<_}
+use native.Mathlib.Omega.{arith}
+use lib.ListN.{length, getD, set, take, drop, length-set}
+use lib.Seq.{getD-set-same, getD-set-other}
+use Rattle.std.proofs.shelf.Lists.{set-set, set-comm, set-getD}
+use Rattle.std.proofs.shelf.Tests.{and-parts, and-from}
+use Rattle.model.specs.Mail.{pick, or, every, any, each, those}
+use Rattle.model.specs.House.{House, Person, Way, Plain, no-person, person-at, set-person, way-at, set-way, house-at, set-house, set-taken}
+use Rattle.model.specs.Device.{Page, page-at, set-page}
+use Rattle.model.specs.Promise.{Never}
+
+pub differ : (a b : ℕ) → (a ≡ b → Never) → a ≢ b
+differ a b ne e = let z : zero ≡ suc zero = ne e in omega arith
+
+pub person-at-is : (ps : List Person) (a : ℕ) → person-at ps a ≡ getD ps a no-person
+unfolding person-at
+person-at-is [] a = refl
+person-at-is (p ∷ ps) zero = refl
+person-at-is (p ∷ ps) (suc a) = person-at-is ps a
+
+pub set-person-is : (ps : List Person) (a : ℕ) (q : Person) → set-person ps a q ≡ set ps a q
+unfolding set-person
+set-person-is [] a q = refl
+set-person-is (p ∷ ps) zero q = refl
+set-person-is (p ∷ ps) (suc a) q = ap {B = List Person} (λ r. p ∷ r) (set-person-is ps a q)
+
+abbrev pub no-way : Way
+no-way = record { sent = 0; waiting = [] }
+
+pub way-at-is : (ws : List Way) (d : ℕ) → way-at ws d ≡ getD ws d no-way
+unfolding way-at
+way-at-is [] d = refl
+way-at-is (w ∷ ws) zero = refl
+way-at-is (w ∷ ws) (suc d) = way-at-is ws d
+
+pub set-way-is : (ws : List Way) (d : ℕ) (v : Way) → set-way ws d v ≡ set ws d v
+unfolding set-way
+set-way-is [] d v = refl
+set-way-is (w ∷ ws) zero v = refl
+set-way-is (w ∷ ws) (suc d) v = ap {B = List Way} (λ r. w ∷ r) (set-way-is ws d v)
+
+abbrev pub no-house : House
+no-house = record { people = []; ways = []; taken = [] }
+
+pub house-at-is : (w : Plain) (c : ℕ) → house-at w c ≡ getD w c no-house
+unfolding house-at
+house-at-is [] c = refl
+house-at-is (h ∷ hs) zero = refl
+house-at-is (h ∷ hs) (suc c) = house-at-is hs c
+
+pub set-house-is : (w : Plain) (c : ℕ) (g : House) → set-house w c g ≡ set w c g
+unfolding set-house
+set-house-is [] c g = refl
+set-house-is (h ∷ hs) zero g = refl
+set-house-is (h ∷ hs) (suc c) g = ap {B = Plain} (λ r. h ∷ r) (set-house-is hs c g)
+
+pub set-taken-is : (js : List ℕ) (c k : ℕ) → set-taken js c k ≡ set js c k
+unfolding set-taken
+set-taken-is [] c k = refl
+set-taken-is (j ∷ js) zero k = refl
+set-taken-is (j ∷ js) (suc c) k = ap {B = List ℕ} (λ r. j ∷ r) (set-taken-is js c k)
+
+pub page-at-is : (ps : List Page) (k : ℕ) → page-at ps k ≡ getD ps k []
+unfolding page-at
+page-at-is [] k = refl
+page-at-is (p ∷ ps) zero = refl
+page-at-is (p ∷ ps) (suc k) = page-at-is ps k
+
+pub set-page-is : (ps : List Page) (k : ℕ) (q : Page) → set-page ps k q ≡ set ps k q
+unfolding set-page
+set-page-is [] k q = refl
+set-page-is (p ∷ ps) zero q = refl
+set-page-is (p ∷ ps) (suc k) q = ap {B = List Page} (λ r. p ∷ r) (set-page-is ps k q)
+
+-- each place as it is after a write there, and after a write elsewhere
+pub ruleset as-lists = (person-at-is, set-person-is, way-at-is, set-way-is, house-at-is, set-house-is, set-taken-is, page-at-is, set-page-is)
+
+pub person-at-other : (ps : List Person) (a b : ℕ) (q : Person) → b ≢ a → person-at (set-person ps a q) b ≡ person-at ps b
+person-at-other ps a b q ne = simp (as-lists, getD-set-other)
+
+pub page-at-other : (ps : List Page) (k j : ℕ) (q : Page) → j ≢ k → page-at (set-page ps k q) j ≡ page-at ps j
+page-at-other ps k j q ne = simp (as-lists, getD-set-other)
+
+pub way-at-same : (ws : List Way) (d : ℕ) (v : Way) → d < length ws → way-at (set-way ws d v) d ≡ v
+way-at-same ws d v h = simp (as-lists, getD-set-same)
+
+pub way-at-other : (ws : List Way) (d e : ℕ) (v : Way) → e ≢ d → way-at (set-way ws d v) e ≡ way-at ws e
+way-at-other ws d e v ne = simp (as-lists, getD-set-other)
+
+pub house-at-same : (w : Plain) (c : ℕ) (g : House) → c < length w → house-at (set-house w c g) c ≡ g
+house-at-same w c g h = simp (as-lists, getD-set-same)
+
+pub house-at-other : (w : Plain) (c d : ℕ) (g : House) → d ≢ c → house-at (set-house w c g) d ≡ house-at w d
+house-at-other w c d g ne = simp (as-lists, getD-set-other)
+
+pub length-set-way : (ws : List Way) (d : ℕ) (v : Way) → length (set-way ws d v) ≡ length ws
+length-set-way ws d v = simp (as-lists, length-set)
+
+pub length-set-house : (w : Plain) (c : ℕ) (g : House) → length (set-house w c g) ≡ length w
+length-set-house w c g = simp (as-lists, length-set)
+
+pub length-set-taken : (js : List ℕ) (c k : ℕ) → length (set-taken js c k) ≡ length js
+length-set-taken js c k = simp (as-lists, length-set)

@@ -2,3 +2,4 @@ pub mod Known
 pub mod Places
 pub mod Device
 pub mod Delivery
+pub mod Fates

@@ -106,3 +106,12 @@ length-set-house w c g = simp (as-lists, length-set)
 
 pub length-set-taken : (js : List ℕ) (c k : ℕ) → length (set-taken js c k) ≡ length js
 length-set-taken js c k = simp (as-lists, length-set)
+
+pub or-false : (a b : Bool) → or a b ≡ false → (a ≡ false) × (b ≡ false)
+or-false true b h = absurd (false≢true (sym h))
+or-false false b h = (refl, h)
+
+-- what holds of both holds of the one that is picked
+pub pick-both : {A : Type 0} (P : A → Type 0) (b : Bool) (x y : A) → P x → P y → P (pick b x y)
+pick-both P true x y px py = px
+pick-both P false x y px py = py

@@ -1,7 +1,7 @@
 // The plain houses, the pages that they lie on, how a house runs, and what all of them promise: definitions in specs/, and here what
 // holds of them, each statement on the contract of a function. It knows nothing of how a house keeps what it has.
 ghost use Rattle.model.specs.Known.{Core-from-nothing};
-ghost use Rattle.model.specs.Promise.{Ends, Others-stay, Flushed-stays};
+ghost use Rattle.model.specs.Promise.{Ends, Others-stay, Flushed-stays, Not-lost};
 
 // The set of known commands grows one kind at a time, from none to the small core.
 pub fn core_from_nothing()
@@ -24,5 +24,11 @@ pub fn others_stay()
 // What was flushed stays, whatever a stop leaves of later writes to other pages.
 pub fn flushed_stays()
     ensures { λ _. ⌜ Flushed-stays ⌝ }
+{
+}
+
+// No letter gets lost by rules: it comes into some box, is passed on, or a rule said "away".
+pub fn not_lost()
+    ensures { λ _. ⌜ Not-lost ⌝ }
 {
 }

@@ -3,3 +3,5 @@ pub mod Places
 pub mod Device
 pub mod Delivery
 pub mod Fates
+pub mod Deliver
+pub mod Pushing

@@ -7,7 +7,7 @@ use Prim.Native.Nat.{ℕ, zero, suc, _+_, _≤_, _<_}
 use native.Mathlib.Omega.{arith}
 use lib.ListN.{length, getD, set, take, drop, length-set}
 use lib.Seq.{getD-set-same, getD-set-other}
-use Rattle.std.proofs.shelf.Lists.{set-set, set-comm, set-getD}
+use Rattle.std.proofs.shelf.Lists.{set-set, set-comm, take-all}
 use Rattle.std.proofs.shelf.Tests.{and-parts, and-from}
 use Rattle.model.specs.Mail.{pick, or, every, any, each, those}
 use Rattle.model.specs.House.{House, Person, Way, Plain, no-person, person-at, set-person, way-at, set-way, house-at, set-house, set-taken}
@@ -106,6 +106,18 @@ length-set-house w c g = simp (as-lists, length-set)
 
 pub length-set-taken : (js : List ℕ) (c k : ℕ) → length (set-taken js c k) ≡ length js
 length-set-taken js c k = simp (as-lists, length-set)
+
+pub set-way-again : (ws : List Way) (d : ℕ) (v u : Way) → set-way (set-way ws d v) d u ≡ set-way ws d u
+set-way-again ws d v u = simp (as-lists, set-set)
+
+pub set-house-again : (w : Plain) (c : ℕ) (g h : House) → set-house (set-house w c g) c h ≡ set-house w c h
+set-house-again w c g h = simp (as-lists, set-set)
+
+pub set-house-swap : (w : Plain) (c d : ℕ) (g h : House) → c ≢ d → set-house (set-house w c g) d h ≡ set-house (set-house w d h) c g
+set-house-swap w c d g h ne = rw (set-house-is w c g, set-house-is w d h, set-house-is (set w c g) d h, set-house-is (set w d h) c g) (set-comm w c d g h ne)
+
+pub take-length : {A : Type 0} (xs : List A) → take (length xs) xs ≡ xs
+take-length xs = take-all (length xs) xs (omega arith)
 
 pub or-false : (a b : Bool) → or a b ≡ false → (a ≡ false) × (b ≡ false)
 or-false true b h = absurd (false≢true (sym h))

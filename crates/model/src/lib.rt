@@ -1,7 +1,7 @@
 // The plain houses, the pages that they lie on, how a house runs, and what all of them promise: definitions in specs/, and here what
 // holds of them, each statement on the contract of a function. It knows nothing of how a house keeps what it has.
 ghost use Rattle.model.specs.Known.{Core-from-nothing};
-ghost use Rattle.model.specs.Promise.{Ends, Others-stay, Flushed-stays, Not-lost};
+ghost use Rattle.model.specs.Promise.{Ends, Others-stay, Flushed-stays, Not-lost, Taken-once, Parts-alike};
 
 // The set of known commands grows one kind at a time, from none to the small core.
 pub fn core_from_nothing()
@@ -30,5 +30,17 @@ pub fn flushed_stays()
 // No letter gets lost by rules: it comes into some box, is passed on, or a rule said "away".
 pub fn not_lost()
     ensures { λ _. ⌜ Not-lost ⌝ }
+{
+}
+
+// What comes goes from the beginning of what is still to come: nothing is taken twice or out of turn.
+pub fn taken_once()
+    ensures { λ _. ⌜ Taken-once ⌝ }
+{
+}
+
+// Pushing in parts comes to pushing at once.
+pub fn parts_alike()
+    ensures { λ _. ⌜ Parts-alike ⌝ }
 {
 }

@@ -7,9 +7,9 @@ use native.Mathlib.Omega.{arith}
 use lib.Dec.{eqb, ltb}
 use lib.ListN.{length, getD}
 use Rattle.model.specs.Mail.{pick, fate, none-of}
-use Rattle.model.specs.House.{House, Person, Turn, turn, set-mark, person-at, somebody, here-box, the-box, letter-of, change-box, with-letters, marked-so, no, yes}
+use Rattle.model.specs.House.{House, Turn, turn, set-mark, person-at, somebody, here-box, the-box, letter-of, change-box, with-letters, marked-so, no, yes}
 use Rattle.model.specs.Promise.{Ends, passes, passed, Others-stay}
-use Rattle.model.proofs.Places.{person-at-other, differ}
+use Rattle.model.proofs.Places.{person-at-other, differ, pick-both}
 
 passed-le : (c n : ℕ) (go : ℕ → ℕ) → ((b : ℕ) → go b ≤ n) → (ps : List (List ℕ)) → passed c go ps ≤ suc n
 unfolding passed
@@ -30,17 +30,12 @@ pub ends : Ends
 unfolding Ends
 ends = passes-le
 
--- of two ways to end a turn, both of which leave something as it is
-pub pick-next : {A : Type 0} (f : House → A) (x : A) (b : Bool) (s t : Turn) → f (s .next) ≡ x → f (t .next) ≡ x → f (pick b s t .next) ≡ x
-pick-next f x true s t p q = p
-pick-next f x false s t p q = q
-
 pub others-stay : Others-stay
 unfolding Others-stay turn
 others-stay n c h a b nm i m v ne =
-    pick-next at-b (at-b h) (here-box h a nm) _ _
-        (pick-next at-b (at-b h) (none-of (letter-of (the-box h a nm .letters) i)) _ _ refl (person-at-other (h .people) a b _ (λ e. differ a b ne (sym e))))
+    pick-both same-b (here-box h a nm) _ _
+        (pick-both same-b (none-of (letter-of (the-box h a nm .letters) i)) _ _ refl (person-at-other (h .people) a b _ (λ e. differ a b ne (sym e))))
         refl
   where
-    at-b : House → Person
-    at-b g = person-at (g .people) b
+    same-b : Turn → Type 0
+    same-b t = person-at (t .next .people) b ≡ person-at (h .people) b

@@ -5,3 +5,4 @@ pub mod Delivery
 pub mod Fates
 pub mod Deliver
 pub mod Pushing
+pub mod Numbers

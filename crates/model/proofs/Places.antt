@@ -127,3 +127,39 @@ or-false false b h = (refl, h)
 pub pick-both : {A : Type 0} (P : A → Type 0) (b : Bool) (x y : A) → P x → P y → P (pick b x y)
 pick-both P true x y px py = px
 pick-both P false x y px py = py
+
+pub pick-cases : {A : Type 0} (P : A → Type 0) (b : Bool) (x y : A) → (b ≡ true → P x) → (b ≡ false → P y) → P (pick b x y)
+pick-cases P true x y px py = px refl
+pick-cases P false x y px py = py refl
+
+-- What holds of each.
+pub every-append : {A : Type 0} (p : A → Bool) (xs ys : List A) → every p xs ≡ true → every p ys ≡ true → every p (xs ++ ys) ≡ true
+every-append p [] ys h k = k
+every-append p (x ∷ xs) ys h k =
+    let hs = and-parts (p x) (every p xs) h in
+    and-from (p x) (every p (xs ++ ys)) (hs .0) (every-append p xs ys (hs .1) k)
+
+pub every-those : {A : Type 0} (p q : A → Bool) (xs : List A) → every p xs ≡ true → every p (those q xs) ≡ true
+every-those p q [] h = refl
+every-those p q (x ∷ xs) h =
+    let hs = and-parts (p x) (every p xs) h in
+    pick-both (λ ys. every p ys ≡ true) (q x) (x ∷ those q xs) (those q xs)
+        (and-from (p x) (every p (those q xs)) (hs .0) (every-those p q xs (hs .1))) (every-those p q xs (hs .1))
+
+pub every-set : {A : Type 0} (p : A → Bool) (xs : List A) (i : ℕ) (y : A) → every p xs ≡ true → p y ≡ true → every p (set xs i y) ≡ true
+every-set p [] i y h k = refl
+every-set p (x ∷ xs) zero y h k = and-from (p y) (every p xs) k (and-parts (p x) (every p xs) h .1)
+every-set p (x ∷ xs) (suc i) y h k =
+    let hs = and-parts (p x) (every p xs) h in
+    and-from (p x) (every p (set xs i y)) (hs .0) (every-set p xs i y (hs .1) k)
+
+pub every-getD : {A : Type 0} (p : A → Bool) (xs : List A) (i : ℕ) (y : A) → every p xs ≡ true → p y ≡ true → p (getD xs i y) ≡ true
+every-getD p [] i y h k = k
+every-getD p (x ∷ xs) zero y h k = and-parts (p x) (every p xs) h .0
+every-getD p (x ∷ xs) (suc i) y h k = every-getD p xs i y (and-parts (p x) (every p xs) h .1) k
+
+pub every-mono : {A : Type 0} (p q : A → Bool) → ((x : A) → p x ≡ true → q x ≡ true) → (xs : List A) → every p xs ≡ true → every q xs ≡ true
+every-mono p q f [] h = refl
+every-mono p q f (x ∷ xs) h =
+    let hs = and-parts (p x) (every p xs) h in
+    and-from (q x) (every q xs) (f x (hs .0)) (every-mono p q f xs (hs .1))

@@ -1,7 +1,7 @@
 // The plain houses, the pages that they lie on, how a house runs, and what all of them promise: definitions in specs/, and here what
 // holds of them, each statement on the contract of a function. It knows nothing of how a house keeps what it has.
 ghost use Rattle.model.specs.Known.{Core-from-nothing};
-ghost use Rattle.model.specs.Promise.{Ends, Others-stay, Flushed-stays, Not-lost, Taken-once, Parts-alike};
+ghost use Rattle.model.specs.Promise.{Ends, Others-stay, Flushed-stays, Not-lost, Taken-once, Parts-alike, Numbers-rise};
 
 // The set of known commands grows one kind at a time, from none to the small core.
 pub fn core_from_nothing()
@@ -42,5 +42,11 @@ pub fn taken_once()
 // Pushing in parts comes to pushing at once.
 pub fn parts_alike()
     ensures { λ _. ⌜ Parts-alike ⌝ }
+{
+}
+
+// Numbers in a box rise and stay below the next one, after any command: none is used again.
+pub fn numbers_rise()
+    ensures { λ _. ⌜ Numbers-rise ⌝ }
 {
 }

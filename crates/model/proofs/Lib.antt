@@ -6,3 +6,4 @@ pub mod Fates
 pub mod Deliver
 pub mod Pushing
 pub mod Numbers
+pub mod Ways

@@ -4,3 +4,4 @@ pub mod Device
 pub mod Run
 pub mod Promise
 pub mod Known
+pub mod Always

@@ -7,3 +7,4 @@ pub mod Deliver
 pub mod Pushing
 pub mod Numbers
 pub mod Ways
+pub mod Turns

@@ -1,6 +1,6 @@
 -- Numbers in a box rise, whatever is done with the box, and none is used again.
 use mathlib.Core.Path.{_≡_, refl, sym, ap, subst, _∙_}
-use mathlib.Core.Bool.{Bool, true, false, _&&_, not, false≢true}
+use mathlib.Core.Bool.{Bool, true, false, _&&_, not}
 use mathlib.Core.List.{List, [], _∷_, _++_}
 use Prim.Native.Nat.{ℕ, zero, suc, _+_, _≤_, _<_}
 use native.Mathlib.Omega.{arith}
@@ -8,11 +8,12 @@ use lib.Dec.{eqb, ltb, leb}
 use lib.ListN.{length, getD, set}
 use borrow.Author.Tests.{ltb-true, lt-ltb, eqb-true}
 use Rattle.std.proofs.shelf.Tests.{and-parts, and-from}
-use Rattle.model.specs.Mail.{pick, or, every, any, each, those, same, none-of, Letter, Rule, Test, has-mark, in-box}
-use Rattle.model.specs.House.{Command, join, hand-in, boxes, new-box, drop-box, list, get, set-mark, to-box, clear, rules, find, push, House, Person, Box, Out, Turn, turn, person-at, set-person, box-of, set-box, no-box, no-person, new-one, at-first, with-people, with-boxes, with-letters, put-letter, put-all, put-here, known-boxes, letter-of, marked-so, without-mark, change-boxes, change-box, here-box, the-box, has-box, known-target, target, deliver, wait-for, come}
+use Rattle.model.specs.Mail.{pick, every, those, same, Letter, has-mark, in-box}
+use Rattle.model.specs.House.{House, Person, Box, Out, turn, person-at, set-person, box-of, set-box, no-box, no-person, new-one, with-people, with-letters, put-letter, put-all, put-here, marked-so, without-mark, change-box, the-box, deliver, wait-for}
 use Rattle.model.specs.Promise.{rising, below, good-box, good-house, Numbers-rise}
 use Rattle.model.proofs.Places.{person-at-is, set-person-is, pick-both, every-append, every-those, every-set, every-getD, every-mono, pick-cases}
 use Rattle.model.proofs.Deliver.{deliver-keeps}
+use Rattle.model.proofs.Turns.{turn-keeps, taken-out}
 
 -- every letter's number is above k
 abbrev above : ℕ → List Letter → Bool
@@ -164,67 +165,22 @@ good-put-here h a ms bs ns g = good-set-person h a _ g (good-put-all ms bs _ (pe
 pub good-deliver : (n c : ℕ) (bs : List ℕ) (h : House) (a : ℕ) → good-house h ≡ true → good-house (deliver n c bs h a) ≡ true
 good-deliver n c bs h a g = deliver-keeps (λ k. good-house k ≡ true) c good-put-here (λ k d o ne q. good-waiting k d o q) n bs h a g
 
--- at most one letter has a number
-pub letter-of-one : (ls : List Letter) (i : ℕ) → none-of (letter-of ls i) ≡ false → (l : Letter) × (letter-of ls i ≡ l ∷ [])
-unfolding letter-of
-letter-of-one [] i = λ h. absurd (false≢true (sym h))
-letter-of-one (l ∷ ls) i =
-    pick-both (λ ms. none-of ms ≡ false → (m : Letter) × (ms ≡ m ∷ [])) (eqb (l .number) i) (l ∷ []) (letter-of ls i) (λ h. (l, refl)) (letter-of-one ls i)
-
 good-appended : (h : House) (ps : List Person) → good-house h ≡ true → every good-person ps ≡ true → good-house (with-people h ((h .people) ++ ps)) ≡ true
 unfolding good-house
 good-appended h ps g k = every-append good-person (h .people) ps g k
 
-abbrev good-next : Turn → Type 0
-good-next t = good-house (t .next) ≡ true
-
-good-turn : (n c : ℕ) (h : House) (a : Command) → good-house h ≡ true → good-next (turn n c h a)
-unfolding turn
-good-turn n c h (join nm) g =
-    pick-both good-next (any (λ p. same (p .name) nm) (h .people)) _ _ g
-        (pick-both good-next (leb 64 (length (h .people))) _ _ g (good-appended h _ g (and-from _ true (and-from _ true (good-new in-box) refl) refl)))
-good-turn n c h (hand-in d a bs) g =
-    pick-both good-next (ltb d n) _ _
-        (pick-both good-next (eqb d c) _ _ (pick-both good-next (ltb a (length (h .people))) _ _ (good-deliver 16 c bs h a g) g) (good-waiting h d _ g)) g
-good-turn n c h (boxes a) g = pick-both good-next (ltb a (length (h .people))) _ _ g g
-good-turn n c h (new-box a nm) g =
-    pick-both good-next (ltb a (length (h .people))) _ _
-        (pick-both good-next (has-box (person-at (h .people) a .boxes) nm) _ _ g
-            (pick-both good-next (leb 256 (length (person-at (h .people) a .boxes))) _ _ g
-                (good-set-person h a _ g (every-append good-box (person-at (h .people) a .boxes) _ (good-boxes-at h a g) (and-from _ true (good-new nm) refl)))))
-        g
-good-turn n c h (drop-box a nm) g =
-    pick-both good-next (here-box h a nm) _ _
-        (pick-both good-next (or (same nm in-box) (not (none-of (the-box h a nm .letters)))) _ _ g
-            (good-set-person h a _ g (every-those good-box (λ b. not (same (b .name) nm)) (person-at (h .people) a .boxes) (good-boxes-at h a g))))
-        g
-good-turn n c h (list a nm i k) g = pick-both good-next (here-box h a nm) _ _ g g
-good-turn n c h (get a nm i j k) g =
-    pick-both good-next (here-box h a nm) _ _ (pick-both good-next (none-of (letter-of (the-box h a nm .letters) i)) _ _ g g) g
-good-turn n c h (set-mark a nm i m v) g =
-    pick-both good-next (here-box h a nm) _ _
-        (pick-both good-next (none-of (letter-of (the-box h a nm .letters) i)) _ _ g
-            (good-change-box h a _ g (good-marked m v i (the-box h a nm) (good-the-box h a nm g))))
-        g
-good-turn n c h (to-box a nm i o) g =
-    pick-both good-next (here-box h a nm && here-box h a o) _ _
-        (pick-cases good-next (none-of (letter-of (the-box h a nm .letters) i)) _ _ (λ e. g)
-            (λ e. pick-both good-next (same nm o) _ _ g
-                (good-change-box _ a _ (good-change-box h a _ g (good-those (λ l. not (eqb (l .number) i)) (the-box h a nm) (good-the-box h a nm g)))
-                    (let one = letter-of-one (the-box h a nm .letters) i e in
-                     rw (one .1) (good-push o (the-box h a o) (one .0 .marks) (one .0 .bytes) (good-the-box h a o g))))))
-        g
-good-turn n c h (clear a nm) g =
-    pick-both good-next (here-box h a nm) _ _
-        (good-change-box h a _ g (good-those (λ l. not (has-mark (l .marks) 1)) (the-box h a nm) (good-the-box h a nm g)))
-        g
-good-turn n c h (rules a rs) g =
-    pick-both good-next (ltb a (length (h .people))) _ _
-        (pick-both good-next (every (λ r. every (λ t. known-target c n h (target t)) (r .acts)) rs) _ _ (good-set-person h a _ g (good-boxes-at h a g)) g)
-        g
-good-turn n c h (find a nm t) g = pick-both good-next (here-box h a nm) _ _ g g
-good-turn n c h (push d) g = pick-both good-next (ltb d n && not (eqb d c)) _ _ g g
-
 pub numbers-rise : Numbers-rise
 unfolding Numbers-rise
-numbers-rise = good-turn
+numbers-rise n c h a g = turn-keeps (λ k. good-house k ≡ true) n c h (record {
+    none = g;
+    joins = λ nm. good-appended h _ g (and-from _ true (and-from _ true (good-new in-box) refl) refl);
+    delivers = λ b bs. good-deliver 16 c bs h b g;
+    waits = λ d o l ne. good-waiting h d o g;
+    makes = λ b nm e. good-set-person h b _ g (every-append good-box (person-at (h .people) b .boxes) _ (good-boxes-at h b g) (and-from _ true (good-new nm) refl));
+    drops = λ b nm e. good-set-person h b _ g (every-those good-box (λ x. not (same (x .name) nm)) (person-at (h .people) b .boxes) (good-boxes-at h b g));
+    marks = λ b nm i m v t. good-change-box h b _ g (good-marked m v i (the-box h b nm) (good-the-box h b nm g));
+    moves = λ b nm i o l t t₁ s e. good-change-box (taken-out h b nm i) b _
+        (good-change-box h b _ g (good-those (λ x. not (eqb (x .number) i)) (the-box h b nm) (good-the-box h b nm g)))
+        (good-push o (the-box h b o) (l .marks) (l .bytes) (good-the-box h b o g));
+    clears = λ b nm t. good-change-box h b _ g (good-those (λ x. not (has-mark (x .marks) 1)) (the-box h b nm) (good-the-box h b nm g));
+    rules = λ b rs l e. good-set-person h b _ g (good-boxes-at h b g) }) a

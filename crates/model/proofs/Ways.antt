@@ -1,19 +1,15 @@
 -- How ways grow: a house adds letters that wait for others, and takes none away.
-use mathlib.Core.Path.{_≡_, refl, sym, ap, subst, _∙_}
-use mathlib.Core.Bool.{Bool, true, false, _&&_, not}
+use mathlib.Core.Path.{_≡_, refl, sym, ap, _∙_}
 use mathlib.Core.List.{List, [], _∷_, _++_}
 use mathlib.Core.Logic.{_≢_, _⊎_, inl, inr}
-use Prim.Native.Nat.{ℕ, zero, suc, _+_, _≤_, _<_}
-use native.Mathlib.Omega.{arith}
-use lib.Dec.{eqb, ltb, leb}
-use lib.ListN.{length, getD, set}
-use borrow.Author.Tests.{eqb-false}
+use Prim.Native.Nat.{ℕ, _≤_, _<_}
+use lib.ListN.{length}
 use Rattle.std.proofs.shelf.Lists.{append-assoc, append-nil, set-past}
 use Rattle.std.proofs.shelf.Tests.{cases-eq, cases-lt}
-use Rattle.model.specs.Mail.{pick, or, every, any, same, none-of, Rule, in-box}
-use Rattle.model.specs.House.{Command, join, hand-in, boxes, new-box, drop-box, list, get, set-mark, to-box, clear, rules, find, push, House, Out, Way, Turn, turn, person-at, has-box, here-box, the-box, letter-of, known-target, target, way-at, set-way, wait-for, deliver, come}
-use Rattle.model.proofs.Places.{set-way-is, way-at-same, way-at-other, length-set-way, pick-both, pick-cases}
+use Rattle.model.specs.House.{Command, House, Out, Way, turn, way-at, set-way, deliver, come}
+use Rattle.model.proofs.Places.{set-way-is, way-at-same, way-at-other, length-set-way}
 use Rattle.model.proofs.Deliver.{deliver-keeps, deliver-taken}
+use Rattle.model.proofs.Turns.{turn-keeps}
 
 -- a way with more letters at its end
 pub record Longer (u v : Way) : Type 0 where
@@ -67,48 +63,21 @@ come-grown c d (o ∷ os) us g q =
         (deliver-keeps (λ k. Grown d us (k .ways)) d (λ k b ms bs ns r. r) (λ k e p ne r. grown-push d us (k .ways) e p ne r) (o .left) (o .bytes) g (o .person) q)
 
 -- a turn of house c takes nothing, and its ways grow
-abbrev pub Apart : ℕ → House → Turn → Type 0
-Apart c h t = Grown c (h .ways) (t .next .ways) × (t .next .taken ≡ h .taken)
+abbrev pub Apart : ℕ → House → House → Type 0
+Apart c h g = Grown c (h .ways) (g .ways) × (g .taken ≡ h .taken)
 
-pub turn-apart : (n c : ℕ) (h : House) (a : Command) → Apart c h (turn n c h a)
-unfolding turn
-turn-apart n c h (join nm) =
-    pick-both (Apart c h) (any (λ p. same (p .name) nm) (h .people)) _ _ (grown-same c (h .ways), refl)
-        (pick-both (Apart c h) (leb 64 (length (h .people))) _ _ (grown-same c (h .ways), refl) (grown-same c (h .ways), refl))
-turn-apart n c h (hand-in d a bs) =
-    pick-both (Apart c h) (ltb d n) _ _
-        (pick-cases (Apart c h) (eqb d c) _ _
-            (λ e. pick-both (Apart c h) (ltb a (length (h .people))) _ _ (deliver-grown 16 c bs h a, deliver-taken 16 c bs h a) (grown-same c (h .ways), refl))
-            (λ e. (grown-push c (h .ways) (h .ways) d _ (eqb-false d c e) (grown-same c (h .ways)), refl)))
-        (grown-same c (h .ways), refl)
-turn-apart n c h (boxes a) = pick-both (Apart c h) (ltb a (length (h .people))) _ _ (grown-same c (h .ways), refl) (grown-same c (h .ways), refl)
-turn-apart n c h (new-box a nm) =
-    pick-both (Apart c h) (ltb a (length (h .people))) _ _
-        (pick-both (Apart c h) (has-box (person-at (h .people) a .boxes) nm) _ _ (grown-same c (h .ways), refl)
-            (pick-both (Apart c h) (leb 256 (length (person-at (h .people) a .boxes))) _ _ (grown-same c (h .ways), refl) (grown-same c (h .ways), refl)))
-        (grown-same c (h .ways), refl)
-turn-apart n c h (drop-box a nm) =
-    pick-both (Apart c h) (here-box h a nm) _ _
-        (pick-both (Apart c h) (or (same nm in-box) (not (none-of (the-box h a nm .letters)))) _ _ (grown-same c (h .ways), refl) (grown-same c (h .ways), refl))
-        (grown-same c (h .ways), refl)
-turn-apart n c h (list a nm i k) = pick-both (Apart c h) (here-box h a nm) _ _ (grown-same c (h .ways), refl) (grown-same c (h .ways), refl)
-turn-apart n c h (get a nm i j k) =
-    pick-both (Apart c h) (here-box h a nm) _ _
-        (pick-both (Apart c h) (none-of (letter-of (the-box h a nm .letters) i)) _ _ (grown-same c (h .ways), refl) (grown-same c (h .ways), refl))
-        (grown-same c (h .ways), refl)
-turn-apart n c h (set-mark a nm i m v) =
-    pick-both (Apart c h) (here-box h a nm) _ _
-        (pick-both (Apart c h) (none-of (letter-of (the-box h a nm .letters) i)) _ _ (grown-same c (h .ways), refl) (grown-same c (h .ways), refl))
-        (grown-same c (h .ways), refl)
-turn-apart n c h (to-box a nm i o) =
-    pick-both (Apart c h) (here-box h a nm && here-box h a o) _ _
-        (pick-both (Apart c h) (none-of (letter-of (the-box h a nm .letters) i)) _ _ (grown-same c (h .ways), refl)
-            (pick-both (Apart c h) (same nm o) _ _ (grown-same c (h .ways), refl) (grown-same c (h .ways), refl)))
-        (grown-same c (h .ways), refl)
-turn-apart n c h (clear a nm) = pick-both (Apart c h) (here-box h a nm) _ _ (grown-same c (h .ways), refl) (grown-same c (h .ways), refl)
-turn-apart n c h (rules a rs) =
-    pick-both (Apart c h) (ltb a (length (h .people))) _ _
-        (pick-both (Apart c h) (every (λ r. every (λ t. known-target c n h (target t)) (r .acts)) rs) _ _ (grown-same c (h .ways), refl) (grown-same c (h .ways), refl))
-        (grown-same c (h .ways), refl)
-turn-apart n c h (find a nm t) = pick-both (Apart c h) (here-box h a nm) _ _ (grown-same c (h .ways), refl) (grown-same c (h .ways), refl)
-turn-apart n c h (push d) = pick-both (Apart c h) (ltb d n && not (eqb d c)) _ _ (grown-same c (h .ways), refl) (grown-same c (h .ways), refl)
+pub turn-apart : (n c : ℕ) (h : House) (a : Command) → Apart c h (turn n c h a .next)
+turn-apart n c h = turn-keeps (Apart c h) n c h (record {
+    none = stays;
+    joins = λ nm. stays;
+    delivers = λ a bs. (deliver-grown 16 c bs h a, deliver-taken 16 c bs h a);
+    waits = λ d o l ne. (grown-push c (h .ways) (h .ways) d o ne (grown-same c (h .ways)), refl);
+    makes = λ a nm e. stays;
+    drops = λ a nm e. stays;
+    marks = λ a nm i m v b. stays;
+    moves = λ a nm i o l b b₁ s e. stays;
+    clears = λ a nm b. stays;
+    rules = λ a rs l e. stays })
+  where
+    stays : Grown c (h .ways) (h .ways) × (h .taken ≡ h .taken)
+    stays = (grown-same c (h .ways), refl)

@@ -8,3 +8,4 @@ pub mod Pushing
 pub mod Numbers
 pub mod Ways
 pub mod Turns
+pub mod Always

@@ -9,7 +9,7 @@ use lib.ListN.{length, getD, set}
 use borrow.Author.Tests.{ltb-true, lt-ltb, eqb-true}
 use Rattle.std.proofs.shelf.Tests.{and-parts, and-from}
 use Rattle.model.specs.Mail.{pick, every, those, same, Letter, has-mark, in-box}
-use Rattle.model.specs.House.{House, Person, Box, Out, turn, person-at, set-person, box-of, set-box, no-box, no-person, new-one, with-people, with-letters, put-letter, put-all, put-here, marked-so, without-mark, change-box, the-box, deliver, wait-for}
+use Rattle.model.specs.House.{Command, House, Person, Box, Out, turn, person-at, set-person, box-of, set-box, no-box, no-person, new-one, with-people, with-letters, put-letter, put-all, put-here, marked-so, without-mark, change-box, the-box, deliver, wait-for, come}
 use Rattle.model.specs.Promise.{rising, below, good-box, good-house, Numbers-rise}
 use Rattle.model.proofs.Places.{person-at-is, set-person-is, pick-both, every-append, every-those, every-set, every-getD, every-mono, pick-cases}
 use Rattle.model.proofs.Deliver.{deliver-keeps}
@@ -169,9 +169,8 @@ good-appended : (h : House) (ps : List Person) → good-house h ≡ true → eve
 unfolding good-house
 good-appended h ps g k = every-append good-person (h .people) ps g k
 
-pub numbers-rise : Numbers-rise
-unfolding Numbers-rise
-numbers-rise n c h a g = turn-keeps (λ k. good-house k ≡ true) n c h (record {
+pub good-turn : (n c : ℕ) (h : House) (a : Command) → good-house h ≡ true → good-house (turn n c h a .next) ≡ true
+good-turn n c h a g = turn-keeps (λ k. good-house k ≡ true) n c h (record {
     none = g;
     joins = λ nm. good-appended h _ g (and-from _ true (and-from _ true (good-new in-box) refl) refl);
     delivers = λ b bs. good-deliver 16 c bs h b g;
@@ -184,3 +183,16 @@ numbers-rise n c h a g = turn-keeps (λ k. good-house k ≡ true) n c h (record 
         (good-push o (the-box h b o) (l .marks) (l .bytes) (good-the-box h b o g));
     clears = λ b nm t. good-change-box h b _ g (good-those (λ x. not (has-mark (x .marks) 1)) (the-box h b nm) (good-the-box h b nm g));
     rules = λ b rs l e. good-set-person h b _ g (good-boxes-at h b g) }) a
+
+pub numbers-rise : Numbers-rise
+unfolding Numbers-rise
+numbers-rise = good-turn
+
+good-taken : (h : House) (js : List ℕ) → good-house h ≡ true → good-house (record { people = h .people; ways = h .ways; taken = js }) ≡ true
+unfolding good-house
+good-taken h js g = g
+
+pub good-come : (c d : ℕ) (os : List Out) (h : House) → good-house h ≡ true → good-house (come c d os h) ≡ true
+unfolding come
+good-come c d [] h g = g
+good-come c d (o ∷ os) h g = good-come c d os _ (good-taken (deliver (o .left) d (o .bytes) h (o .person)) _ (good-deliver (o .left) d (o .bytes) h (o .person) g))

@@ -9,3 +9,4 @@ pub mod Numbers
 pub mod Ways
 pub mod Turns
 pub mod Always
+pub mod Example

@@ -5,3 +5,4 @@ pub mod Run
 pub mod Promise
 pub mod Known
 pub mod Always
+pub mod Example

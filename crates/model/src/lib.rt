@@ -1,6 +1,7 @@
 // The plain houses, the pages that they lie on, how a house runs, and what all of them promise: definitions in specs/, and here what
 // holds of them, each statement on the contract of a function. It knows nothing of how a house keeps what it has.
 ghost use Rattle.model.specs.Always.{Always-sound};
+ghost use Rattle.model.specs.Example.{Two-islands};
 ghost use Rattle.model.specs.Known.{Core-from-nothing};
 ghost use Rattle.model.specs.Promise.{Ends, Others-stay, Flushed-stays, Not-lost, Taken-once, Parts-alike, Numbers-rise};
 
@@ -55,5 +56,11 @@ pub fn numbers_rise()
 // From the first houses on, after any turns and any parts of pushes: each house knows of no letter as taken that wasn't, and boxes are good.
 pub fn always_sound()
     ensures { λ _. ⌜ Always-sound ⌝ }
+{
+}
+
+// Two islands, worked out: what each command of the table shows, what both houses have to keep in the end, and a push that breaks off and is made again.
+pub fn two_islands()
+    ensures { λ _. ⌜ Two-islands ⌝ }
 {
 }

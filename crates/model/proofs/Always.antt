@@ -171,16 +171,18 @@ module _ (w : Plain) (c d more know : ℕ) (ne : c ≢ d) (lc : c < length w) (l
       pair x y (inl p) (inr nq) = inl (other-pair x y (λ p₁ q. nq q))
       pair x y (inr np) q = inl (other-pair x y (λ p q₁. np p))
 
+pub sound-of : {n : ℕ} {w : Plain} → Reached n w → Sound n w
+sound-of {n} begun = begun-sound n
+sound-of {n} (turned {w} c a l r) =
+    let s = sound-of r in
+    step-sound n w _ (turned-step n w c a (rw (s .houses) l)) s
+sound-of {n} (came {w} c d more know lc ld ne can r) =
+    let s = sound-of r in
+    step-sound n w _
+        (pushed-step w c d more know (differ c d ne) (rw (s .houses) lc) (rw (s .houses) ld) (rw (s .ways c lc) ld) (rw (s .taken d ld) lc) (s .known c d lc ld)
+            (can-know-true w c d more know can))
+        s
+
 pub always-sound : Always-sound
 unfolding Always-sound
-always-sound n w r = sound r
-  where
-    sound : {v : Plain} → Reached n v → Sound n v
-    sound begun = begun-sound n
-    sound (turned {w = v} c a l s) =
-        let k = sound s in
-        step-sound n v _ (turned-step n v c a (rw (k .houses) l)) k
-    sound (came {w = v} c d more know lc ld ne can s) =
-        let k = sound s in
-        step-sound n v _
-            (pushed-step v c d more know (differ c d ne) (rw (k .houses) lc) (rw (k .houses) ld) (rw (k .ways c lc) ld) (rw (k .taken d ld) lc) (k .known c d lc ld) (can-know-true v c d more know can)) k
+always-sound n w r = sound-of r

@@ -7,7 +7,7 @@ use native.Mathlib.Omega.{arith}
 use lib.Dec.{eqb, ltb}
 use lib.ListN.{length, getD}
 use Rattle.model.specs.Mail.{pick, fate, none-of}
-use Rattle.model.specs.House.{House, Turn, turn, set-mark, person-at, somebody, here-box, the-box, letter-of, change-box, with-letters, marked-so, no, yes}
+use Rattle.model.specs.House.{House, Turn, turn, set-mark, person-at, somebody, here-box, the-box, letter-of}
 use Rattle.model.specs.Promise.{Ends, passes, passed, Others-stay}
 use Rattle.model.proofs.Places.{person-at-other, differ, pick-both}
 

@@ -10,3 +10,4 @@ pub mod Ways
 pub mod Turns
 pub mod Always
 pub mod Example
+pub mod Stays

@@ -1,6 +1,6 @@
 // The plain houses, the pages that they lie on, how a house runs, and what all of them promise: definitions in specs/, and here what
 // holds of them, each statement on the contract of a function. It knows nothing of how a house keeps what it has.
-ghost use Rattle.model.specs.Always.{Always-sound};
+ghost use Rattle.model.specs.Always.{Always-sound, Stays-reached};
 ghost use Rattle.model.specs.Example.{Two-islands};
 ghost use Rattle.model.specs.Known.{Core-from-nothing};
 ghost use Rattle.model.specs.Promise.{Ends, Others-stay, Flushed-stays, Not-lost, Taken-once, Parts-alike, Numbers-rise};
@@ -56,6 +56,12 @@ pub fn numbers_rise()
 // From the first houses on, after any turns and any parts of pushes: each house knows of no letter as taken that wasn't, and boxes are good.
 pub fn always_sound()
     ensures { λ _. ⌜ Always-sound ⌝ }
+{
+}
+
+// Whatever a command may leave, or a stop in its middle, by the main promise, can come about: so what always holds, holds of it.
+pub fn stays_reached()
+    ensures { λ _. ⌜ Stays-reached ⌝ }
 {
 }
 

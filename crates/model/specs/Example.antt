@@ -7,8 +7,8 @@ use Prim.Native.String.{String}
 use lib.Chars.{codes}
 use lib.Dec.{eqb}
 use lib.ListN.{length}
-use Rattle.model.specs.Mail.{pick, each, Rule, always, field-has, field-is, file, mark, halt, on-to, in-box}
-use Rattle.model.specs.House.{Command, join, hand-in, new-box, drop-box, list, set-mark, to-box, clear, rules, push, House, Plain, turn, house-at, set-house, way-at, not-taken, pushed, can-know, weight}
+use Rattle.model.specs.Mail.{pick, each, Rule, always, field-has, field-is, longer, marked, neither, both, either, Action, file, away, mark, halt, on-to, in-box}
+use Rattle.model.specs.House.{Command, join, hand-in, boxes, new-box, drop-box, list, get, set-mark, to-box, clear, rules, find, push, House, Plain, turn, house-at, set-house, way-at, not-taken, pushed, can-know, weight}
 use Rattle.model.specs.Run.{so-many, fault}
 use Rattle.model.specs.Promise.{first-house}
 
@@ -63,8 +63,8 @@ bo-rules =
     ∷ record { test = field-is (codes "from") (codes "olsen"); acts = on-to 0 1 ∷ [] }
     ∷ []
 
-abbrev pub all-on-to : ℕ → ℕ → List Rule
-all-on-to d a = record { test = always; acts = on-to d a ∷ [] } ∷ []
+abbrev pub all-to : Action → List Rule
+all-to a = record { test = always; acts = a ∷ [] } ∷ []
 
 -- a number below 256 as it is shown
 abbrev pub number : ℕ → List ℕ
@@ -79,6 +79,10 @@ shows-number k = record { shows = number k ∷ []; end = 0 }
 -- one letter: its number, its marks as bits, its length
 abbrev pub one-letter : ℕ → ℕ → ℕ → Seen
 one-letter i ms k = record { shows = (number i ++ ms ∷ [] ++ number k) ∷ []; end = 0 }
+
+-- one box: its name, the next number, how many letters
+abbrev pub box-row : List ℕ → ℕ → ℕ → List ℕ
+box-row n i k = number (length n) ++ n ++ number i ++ number k
 
 abbrev pub refusal : ℕ → Seen
 refusal k = record { shows = []; end = k }
@@ -121,8 +125,8 @@ keeping =
     ∷ gives (says 1 (hand-in 1 1 bill)) nothing-shown
     ∷ gives (says 1 (list 1 bills 1 1000)) (one-letter 2 4 45)
     ∷ gives (says 1 (drop-box 1 bills)) (refusal 6)
-    ∷ gives (says 1 (rules 2 (all-on-to 1 9))) (refusal 5)
-    ∷ gives (says 1 (rules 2 (all-on-to 1 2))) nothing-shown
+    ∷ gives (says 1 (rules 2 (all-to (on-to 1 9)))) (refusal 5)
+    ∷ gives (says 1 (rules 2 (all-to (on-to 1 2)))) nothing-shown
     ∷ gives (says 1 (hand-in 1 2 nets)) nothing-shown
     ∷ gives (says 1 (list 2 in-box 1 1000)) (one-letter 1 0 45)
     ∷ []
@@ -130,15 +134,43 @@ keeping =
 abbrev pub table : List Row
 table = preparing ++ pushing ++ keeping
 
+-- what the table of the two islands leaves open: the other commands, refusals, a box that isn't there, a number that isn't used again
+abbrev pub further : List Row
+further =
+    gives (says 1 (boxes 1)) (record { shows = box-row in-box 2 0 ∷ box-row bills 3 1 ∷ []; end = 0 })
+    ∷ gives (says 1 (get 1 bills 2 9 4)) (record { shows = codes "bill" ∷ []; end = 0 })
+    ∷ gives (says 1 (get 1 bills 1 0 45)) (refusal 3)
+    ∷ gives (says 1 (find 1 bills (both (field-has (codes "FROM") (codes "work")) (longer 44)))) (shows-number 2)
+    ∷ gives (says 1 (find 1 bills (either (marked 0) (neither (marked 2))))) nothing-shown
+    ∷ gives (says 0 (join (codes "anna"))) (refusal 4)
+    ∷ gives (says 1 (new-box 1 bills)) (refusal 4)
+    ∷ gives (says 0 (hand-in 2 0 bill)) (refusal 5)
+    ∷ gives (says 0 (hand-in 0 2 bill)) (refusal 3)
+    ∷ gives (pushes 1 1) (refusal 5)
+    ∷ gives (pushes 0 1) nothing-shown
+    ∷ gives (says 1 (rules 0 (all-to (file (codes "attic"))))) nothing-shown
+    ∷ gives (says 1 (hand-in 1 0 bill)) nothing-shown
+    ∷ gives (says 1 (list 0 in-box 2 1)) (one-letter 2 0 45)
+    ∷ gives (says 1 (rules 0 (all-to away))) nothing-shown
+    ∷ gives (says 1 (hand-in 1 0 bill)) nothing-shown
+    ∷ gives (says 1 (list 0 in-box 3 1)) nothing-shown
+    ∷ gives (says 1 (set-mark 1 bills 2 2 false)) nothing-shown
+    ∷ gives (says 1 (set-mark 1 bills 2 1 true)) nothing-shown
+    ∷ gives (says 1 (list 1 bills 0 1)) (one-letter 2 2 45)
+    ∷ gives (says 1 (clear 1 bills)) (shows-number 2)
+    ∷ gives (says 1 (drop-box 1 bills)) nothing-shown
+    ∷ gives (says 1 (boxes 1)) (record { shows = box-row in-box 2 0 ∷ []; end = 0 })
+    ∷ []
+
 abbrev pub deeds : List Row → List Deed
 deeds rs = each (λ r. r .deed) rs
 
 abbrev pub two-houses : Plain
 two-houses = so-many 2 (first-house 2)
 
--- each row of the table shows what it says; and so much is to be kept in the end
+-- each row shows what it says; and so much is to be kept at the end of the table
 pub record Two-islands : Type 0 where
-  pub rows : all-seen 2 two-houses (deeds table) ≡ each (λ r. r .seen-is) table
+  pub rows : all-seen 2 two-houses (deeds (table ++ further)) ≡ each (λ r. r .seen-is) (table ++ further)
   pub weight-0 : weight (house-at (all-after 2 two-houses (deeds table)) 0) ≡ 1981
   pub weight-1 : weight (house-at (all-after 2 two-houses (deeds table)) 1) ≡ 3745
   -- a push that breaks off when two letters have come, and one is known to have, and the next push: the third comes, and all is as after one push

@@ -11,3 +11,4 @@ pub mod Turns
 pub mod Always
 pub mod Example
 pub mod Stays
+pub mod Boxes

@@ -7,13 +7,15 @@ use Prim.Native.Nat.{ℕ, zero, suc, _+_, _-_, _≤_, _<_}
 use native.Mathlib.Omega.{arith}
 use lib.ListN.{length, getD, take, drop, replicate, length-replicate, getD-replicate, length-append, length-drop}
 use Rattle.std.proofs.shelf.Tests.{cases-eq}
+use Rattle.model.specs.Mail.{same}
 use Rattle.model.specs.House.{Command, House, Plain, Way, Out, turn, house-at, set-house, way-at, pushed, can-know, not-taken, come}
 use Rattle.model.specs.Run.{so-many}
 use Rattle.model.specs.Promise.{Never, first-house, known-taken, good-house, good-box, rising, below}
-use Rattle.model.specs.Always.{Reached, begun, turned, came, Sound, Always-sound}
+use Rattle.model.specs.Always.{Becomes, turned, came, Reached, begun, became, Ready, Sound, Always-sound}
 use Rattle.model.proofs.Places.{differ, house-at-is, way-at-is, house-at-same, house-at-other, length-set-house, way-at-other, length-set-way, no-way, no-house}
 use Rattle.model.proofs.Deliver.{come-length-taken, come-taken-other}
 use Rattle.model.proofs.Numbers.{good-turn, good-come}
+use Rattle.model.proofs.Ready.{ready-turn, ready-come}
 use Rattle.model.proofs.Ways.{Longer, Grown, longer-same, grown-same, come-grown, turn-apart}
 use Rattle.model.proofs.Pushing.{knowing, after-more, Knowable, can-know-true, pushed-here, pushed-there, pushed-elsewhere, length-pushed, taken-after, way-knowing}
 
@@ -36,6 +38,10 @@ first-good : (n : ℕ) → good-house (first-house n) ≡ true
 unfolding good-house good-box rising below
 first-good n = refl
 
+first-ready : (n : ℕ) → Ready n (first-house n)
+unfolding same
+first-ready n = record { staffed = omega arith; at-home = refl; on-to-houses = refl }
+
 begun-sound : (n : ℕ) → Sound n (so-many n (first-house n))
 unfolding known-taken
 begun-sound n = record {
@@ -44,7 +50,8 @@ begun-sound n = record {
     taken = λ c l. rw (first-at n c l, so-many-is {A = ℕ} n 0) (length-replicate {A = ℕ} n 0);
     own = λ c l. rw (first-at n c l) (first-way n c l);
     known = λ c d l k. rw (first-at n c l, first-at n d k, first-way n d k, first-taken n c l) (omega arith);
-    good = λ c l. rw (first-at n c l) (first-good n) }
+    good = λ c l. rw (first-at n c l) (first-good n);
+    ready = λ c l. rw (first-at n c l) (first-ready n) }
 
 -- A pair of houses is as before, but that more letters may wait.
 pub record As-before (w v : Plain) (x y : ℕ) : Type 0 where
@@ -59,28 +66,30 @@ known-before w v x y b k =
     omega (arith, b .way .sent, b .taken, k .0, k .1)
 
 -- What a step keeps: of each house, and of each two.
-record Kept (x : ℕ) (h g : House) : Type 0 where
+record Kept (n x : ℕ) (h g : House) : Type 0 where
   ways : length (g .ways) ≡ length (h .ways)
   taken : length (g .taken) ≡ length (h .taken)
   own : way-at (g .ways) x ≡ way-at (h .ways) x
   good : good-house h ≡ true → good-house g ≡ true
+  ready : Ready n h → Ready n g
 
-kept-same : (x : ℕ) (h : House) → Kept x h h
-kept-same x h = record { ways = refl; taken = refl; own = refl; good = λ g. g }
+kept-same : (n x : ℕ) (h : House) → Kept n x h h
+kept-same n x h = record { ways = refl; taken = refl; own = refl; good = λ g. g; ready = λ g. g }
 
-record Step (w v : Plain) : Type 0 where
+record Step (n : ℕ) (w v : Plain) : Type 0 where
   houses : length v ≡ length w
-  house : (x : ℕ) → Kept x (house-at w x) (house-at v x)
+  house : (x : ℕ) → Kept n x (house-at w x) (house-at v x)
   pairs : (x y : ℕ) → As-before w v x y ⊎ known-taken v x y
 
-step-sound : (n : ℕ) (w v : Plain) → Step w v → Sound n w → Sound n v
+step-sound : (n : ℕ) (w v : Plain) → Step n w v → Sound n w → Sound n v
 step-sound n w v t s = record {
     houses = t .houses ∙ s .houses;
     ways = λ x l. t .house x .ways ∙ s .ways x l;
     taken = λ x l. t .house x .taken ∙ s .taken x l;
     own = λ x l. t .house x .own ∙ s .own x l;
     known = λ x y l k. pair x y l k (t .pairs x y);
-    good = λ x l. t .house x .good (s .good x l) }
+    good = λ x l. t .house x .good (s .good x l);
+    ready = λ x l. t .house x .ready (s .ready x l) }
   where
     pair : (x y : ℕ) → x < n → y < n → As-before w v x y ⊎ known-taken v x y → known-taken v x y
     pair x y l k (inl b) = known-before w v x y b (s .known x y l k)
@@ -99,14 +108,14 @@ module _ (n : ℕ) (w : Plain) (c : ℕ) (a : Command) (l : c < length w) where
       go (inl e) = rw (e, house-at-same w c new l) p
       go (inr ne) = rw (house-at-other w c x new ne) (q x)
 
-  turned-step : Step w (set-house w c new)
+  turned-step : Step n w (set-house w c new)
   turned-step =
       let apart = turn-apart n c (house-at w c) a in
       record {
           houses = length-set-house w c new;
-          house = at-turned (λ x h. Kept x (house-at w x) h)
-              (record { ways = apart .0 .length-is; taken = ap length (apart .1); own = apart .0 .own; good = good-turn n c (house-at w c) a })
-              (λ x. kept-same x (house-at w x));
+          house = at-turned (λ x h. Kept n x (house-at w x) h)
+              (record { ways = apart .0 .length-is; taken = ap length (apart .1); own = apart .0 .own; good = good-turn n c (house-at w c) a; ready = ready-turn n c (house-at w c) a })
+              (λ x. kept-same n x (house-at w x));
           pairs = λ x y. inl (record {
               way = at-turned (λ z h. Longer (way-at (house-at w z .ways) y) (way-at (h .ways) y)) (apart .0 .each y) (λ z. longer-same (way-at (house-at w z .ways) y)) x;
               taken = at-turned (λ z h. getD (h .taken) x 0 ≡ getD (house-at w z .taken) x 0) (ap (λ (js : List ℕ). getD js x 0) (apart .1)) (λ z. refl) y }) }
@@ -116,7 +125,7 @@ good-knowing : (h : House) (d know : ℕ) → good-house h ≡ true → good-hou
 unfolding good-house
 good-knowing h d know g = g
 
-module _ (w : Plain) (c d more know : ℕ) (ne : c ≢ d) (lc : c < length w) (ld : d < length w) where
+module _ (n : ℕ) (w : Plain) (c d more know : ℕ) (ne : c ≢ d) (lc : c < length w) (ld : d < length w) where
   -- a house is the one pushed to, the one that pushed, or as before
   at-pushed : (P : ℕ → House → Type 0) → P d (after-more w c d more) → P c (knowing (house-at w c) d know) → ((x : ℕ) → P x (house-at w x)) →
       (x : ℕ) → P x (house-at (pushed w c d more know) x)
@@ -149,21 +158,23 @@ module _ (w : Plain) (c d more know : ℕ) (ne : c ≢ d) (lc : c < length w) (l
       rw (taken-after w c d more know ne ld lt (k .comes), pushed-here w c d more know ne lc, way-knowing (house-at w c) d know lw)
           (k .known, omega (arith, k .comes, k .known, kt .0, kt .1, length-drop know (way .waiting), length-drop (had - way .sent) (way .waiting)))
 
-  pushed-step : d < length (house-at w c .ways) → c < length (house-at w d .taken) → known-taken w c d → Knowable w c d more know → Step w (pushed w c d more know)
+  pushed-step : d < length (house-at w c .ways) → c < length (house-at w d .taken) → known-taken w c d → Knowable w c d more know → Step n w (pushed w c d more know)
   pushed-step lw lt kt k = record {
       houses = length-pushed w c d more know ne;
-      house = at-pushed (λ x h. Kept x (house-at w x) h)
+      house = at-pushed (λ x h. Kept n x (house-at w x) h)
           (record {
               ways = grown-there .length-is;
               taken = come-length-taken c d (take more (not-taken w c d)) (house-at w d);
               own = grown-there .own;
-              good = good-come c d (take more (not-taken w c d)) (house-at w d) })
+              good = good-come c d (take more (not-taken w c d)) (house-at w d);
+              ready = ready-come n c d (take more (not-taken w c d)) (house-at w d) })
           (record {
               ways = length-set-way (house-at w c .ways) d _;
               taken = refl;
               own = way-at-other (house-at w c .ways) d c _ ne;
-              good = good-knowing (house-at w c) d know })
-          (λ x. kept-same x (house-at w x));
+              good = good-knowing (house-at w c) d know;
+              ready = λ r. record { staffed = r .staffed; at-home = r .at-home; on-to-houses = r .on-to-houses } })
+          (λ x. kept-same n x (house-at w x));
       pairs = λ x y. pair x y (cases-eq x c) (cases-eq y d) }
     where
       pair : (x y : ℕ) → (x ≡ c) ⊎ (x ≡ c → ⊥) → (y ≡ d) ⊎ (y ≡ d → ⊥) → As-before w (pushed w c d more know) x y ⊎ known-taken (pushed w c d more know) x y
@@ -171,17 +182,15 @@ module _ (w : Plain) (c d more know : ℕ) (ne : c ≢ d) (lc : c < length w) (l
       pair x y (inl p) (inr nq) = inl (other-pair x y (λ p₁ q. nq q))
       pair x y (inr np) q = inl (other-pair x y (λ p q₁. np p))
 
+becomes-step : (n : ℕ) (w v : Plain) → Becomes n w v → Sound n w → Step n w v
+becomes-step n w v (turned c a l) s = turned-step n w c a (rw (s .houses) l)
+becomes-step n w v (came c d more know lc ld ne can) s =
+    pushed-step n w c d more know (differ c d ne) (rw (s .houses) lc) (rw (s .houses) ld) (rw (s .ways c lc) ld) (rw (s .taken d ld) lc) (s .known c d lc ld)
+        (can-know-true w c d more know can)
+
 pub sound-of : {n : ℕ} {w : Plain} → Reached n w → Sound n w
 sound-of {n} begun = begun-sound n
-sound-of {n} (turned {w} c a l r) =
-    let s = sound-of r in
-    step-sound n w _ (turned-step n w c a (rw (s .houses) l)) s
-sound-of {n} (came {w} c d more know lc ld ne can r) =
-    let s = sound-of r in
-    step-sound n w _
-        (pushed-step w c d more know (differ c d ne) (rw (s .houses) lc) (rw (s .houses) ld) (rw (s .ways c lc) ld) (rw (s .taken d ld) lc) (s .known c d lc ld)
-            (can-know-true w c d more know can))
-        s
+sound-of {n} (became {w} {v} r b) = step-sound n w v (becomes-step n w v b (sound-of r)) (sound-of r)
 
 pub always-sound : Always-sound
 unfolding Always-sound

@@ -12,3 +12,4 @@ pub mod Always
 pub mod Example
 pub mod Stays
 pub mod Boxes
+pub mod Ready

@@ -11,7 +11,7 @@ use Rattle.std.proofs.shelf.Tests.{and-parts, and-from}
 use Rattle.model.specs.Mail.{pick, every, those, same, Letter, has-mark, in-box}
 use Rattle.model.specs.House.{Command, House, Person, Box, Out, turn, person-at, set-person, box-of, set-box, no-box, no-person, new-one, with-people, with-letters, put-letter, put-all, put-here, marked-so, without-mark, change-box, the-box, deliver, wait-for, come}
 use Rattle.model.specs.Promise.{rising, below, good-box, good-house, Numbers-rise}
-use Rattle.model.proofs.Places.{person-at-is, set-person-is, pick-both, every-append, every-those, every-set, every-getD, every-mono, pick-cases}
+use Rattle.model.proofs.Places.{person-at-is, set-person-is, pick-both, every-append, every-those, every-set, every-getD-or, every-mono, pick-cases}
 use Rattle.model.proofs.Deliver.{deliver-keeps}
 use Rattle.model.proofs.Turns.{turn-keeps, taken-out}
 
@@ -143,11 +143,11 @@ good-person p = every good-box (p .boxes)
 
 pub good-boxes-at : (h : House) (a : ℕ) → good-house h ≡ true → every good-box (person-at (h .people) a .boxes) ≡ true
 unfolding good-house
-good-boxes-at h a g = rw person-at-is (every-getD good-person (h .people) a no-person g refl)
+good-boxes-at h a g = rw person-at-is (every-getD-or good-person (h .people) a no-person g refl)
 
 good-set-person : (h : House) (a : ℕ) (q : Person) → good-house h ≡ true → every good-box (q .boxes) ≡ true → good-house (with-people h (set-person (h .people) a q)) ≡ true
 unfolding good-house
-good-set-person h a q g k = rw set-person-is (every-set good-person (h .people) a q g k)
+good-set-person h a q g k = rw set-person-is (every-set good-person (h .people) a q g (λ l. k))
 
 good-the-box : (h : House) (a : ℕ) (n : List ℕ) → good-house h ≡ true → good-box (the-box h a n) ≡ true
 good-the-box h a n g = good-box-of (person-at (h .people) a .boxes) n (good-boxes-at h a g)

@@ -7,7 +7,7 @@ use Prim.Native.Nat.{ℕ, zero, suc, _+_, _≤_, _<_}
 use native.Mathlib.Omega.{arith}
 use lib.ListN.{length, getD, set, take, drop, length-set}
 use lib.Seq.{getD-set-same, getD-set-other}
-use Rattle.std.proofs.shelf.Lists.{set-set, set-comm, take-all}
+use Rattle.std.proofs.shelf.Lists.{set-set, set-comm, set-past, take-all}
 use Rattle.std.proofs.shelf.Tests.{and-parts, and-from}
 use Rattle.model.specs.Mail.{pick, or, every, any, each, those}
 use Rattle.model.specs.House.{House, Person, Way, Plain, no-person, person-at, set-person, way-at, set-way, house-at, set-house, set-taken}
@@ -83,6 +83,15 @@ pub ruleset as-lists = (person-at-is, set-person-is, way-at-is, set-way-is, hous
 pub person-at-other : (ps : List Person) (a b : ℕ) (q : Person) → b ≢ a → person-at (set-person ps a q) b ≡ person-at ps b
 person-at-other ps a b q ne = simp (as-lists, getD-set-other)
 
+pub person-at-same : (ps : List Person) (a : ℕ) (q : Person) → a < length ps → person-at (set-person ps a q) a ≡ q
+person-at-same ps a q h = simp (as-lists, getD-set-same)
+
+pub set-person-past : (ps : List Person) (a : ℕ) (q : Person) → length ps ≤ a → set-person ps a q ≡ ps
+set-person-past ps a q h = rw set-person-is (set-past ps a q h)
+
+pub length-set-person : (ps : List Person) (a : ℕ) (q : Person) → length (set-person ps a q) ≡ length ps
+length-set-person ps a q = simp (as-lists, length-set)
+
 pub page-at-other : (ps : List Page) (k j : ℕ) (q : Page) → j ≢ k → page-at (set-page ps k q) j ≡ page-at ps j
 page-at-other ps k j q ne = simp (as-lists, getD-set-other)
 
@@ -146,17 +155,24 @@ every-those p q (x ∷ xs) h =
     pick-both (λ ys. every p ys ≡ true) (q x) (x ∷ those q xs) (those q xs)
         (and-from (p x) (every p (those q xs)) (hs .0) (every-those p q xs (hs .1))) (every-those p q xs (hs .1))
 
-pub every-set : {A : Type 0} (p : A → Bool) (xs : List A) (i : ℕ) (y : A) → every p xs ≡ true → p y ≡ true → every p (set xs i y) ≡ true
+-- at a place that is there
+pub every-set : {A : Type 0} (p : A → Bool) (xs : List A) (i : ℕ) (y : A) → every p xs ≡ true → (i < length xs → p y ≡ true) → every p (set xs i y) ≡ true
 every-set p [] i y h k = refl
-every-set p (x ∷ xs) zero y h k = and-from (p y) (every p xs) k (and-parts (p x) (every p xs) h .1)
+every-set p (x ∷ xs) zero y h k = and-from (p y) (every p xs) (k (omega arith)) (and-parts (p x) (every p xs) h .1)
 every-set p (x ∷ xs) (suc i) y h k =
     let hs = and-parts (p x) (every p xs) h in
-    and-from (p x) (every p (set xs i y)) (hs .0) (every-set p xs i y (hs .1) k)
+    and-from (p x) (every p (set xs i y)) (hs .0) (every-set p xs i y (hs .1) (λ l. k (omega arith)))
 
-pub every-getD : {A : Type 0} (p : A → Bool) (xs : List A) (i : ℕ) (y : A) → every p xs ≡ true → p y ≡ true → p (getD xs i y) ≡ true
-every-getD p [] i y h k = k
-every-getD p (x ∷ xs) zero y h k = and-parts (p x) (every p xs) h .0
-every-getD p (x ∷ xs) (suc i) y h k = every-getD p xs i y (and-parts (p x) (every p xs) h .1) k
+pub every-getD : {A : Type 0} (p : A → Bool) (xs : List A) (i : ℕ) (y : A) → every p xs ≡ true → i < length xs → p (getD xs i y) ≡ true
+every-getD p [] i y h l = absurd (omega arith)
+every-getD p (x ∷ xs) zero y h l = and-parts (p x) (every p xs) h .0
+every-getD p (x ∷ xs) (suc i) y h l = every-getD p xs i y (and-parts (p x) (every p xs) h .1) (omega arith)
+
+-- and at a place that may not be there, if it holds of what stands for it
+pub every-getD-or : {A : Type 0} (p : A → Bool) (xs : List A) (i : ℕ) (y : A) → every p xs ≡ true → p y ≡ true → p (getD xs i y) ≡ true
+every-getD-or p [] i y h k = k
+every-getD-or p (x ∷ xs) zero y h k = and-parts (p x) (every p xs) h .0
+every-getD-or p (x ∷ xs) (suc i) y h k = every-getD-or p xs i y (and-parts (p x) (every p xs) h .1) k
 
 pub every-mono : {A : Type 0} (p q : A → Bool) → ((x : A) → p x ≡ true → q x ≡ true) → (xs : List A) → every p xs ≡ true → every q xs ≡ true
 every-mono p q f [] h = refl

@@ -12,10 +12,10 @@ use Rattle.std.proofs.shelf.Tests.{and-parts}
 use Rattle.model.specs.Mail.{pick}
 use Rattle.model.specs.House.{Command, push, House, Plain, Way, yes, no, turn, house-at, set-house, way-at, pushed, can-know, not-taken}
 use Rattle.model.specs.Promise.{Never, known-taken, May, Mid, Turn-may, Push-may, is-push}
-use Rattle.model.specs.Always.{Reached, turned, came, Sound, Stays-reached}
+use Rattle.model.specs.Always.{turned, came, Reached, became, Stays-reached}
 use Rattle.model.proofs.Places.{pick-cases}
 use Rattle.model.proofs.Pushing.{know-can}
-use Rattle.model.proofs.Always.{always-sound, sound-of}
+use Rattle.model.proofs.Always.{sound-of}
 
 -- a push that isn't refused goes to another house that is there
 pub push-allowed : (n c : ℕ) (h : House) (d : ℕ) → turn n c h (push d) .reply ≡ 0 → (d < n) × (c ≡ d → Never)
@@ -40,12 +40,12 @@ module _ (n : ℕ) (w : Plain) (c : ℕ) (l : c < n) (r : Reached n w) where
   same-houses v u e k = rw e k
 
   after-turn : (v : Plain) (a : Command) → v ≡ set-house w c (turn (length w) c (house-at w c) a .next) → Reached n v
-  after-turn v a e = same-houses v _ (rw (sound-of r .houses) at e) (turned c a l r)
+  after-turn v a e = same-houses v _ (rw (sound-of r .houses) at e) (became r (turned c a l))
 
   after-part : (v : Plain) (d more know : ℕ) → turn (length w) c (house-at w c) (push d) .reply ≡ 0 → can-know w c d more know ≡ true → v ≡ pushed w c d more know → Reached n v
   after-part v d more know ok can e =
       let to = push-allowed n c (house-at w c) d (rw (sound-of r .houses) at ok) in
-      same-houses v _ e (came c d more know l (to .0) (to .1) can r)
+      same-houses v _ e (became r (came c d more know l (to .0) (to .1) can))
 
   after-push : (pages : ℕ) (v : Plain) (d ls : ℕ) (up : Bool) (ss : List (List ℕ)) (reply : ℕ) →
       turn (length w) c (house-at w c) (push d) .reply ≡ 0 → Push-may pages w c d ls up ss reply v → Reached n v

@@ -1,18 +1,34 @@
 -- What holds of the plain houses at all times, from the first houses on, whatever is said to them and however pushes break off.
 use mathlib.Core.Path.{_≡_}
-use mathlib.Core.Bool.{Bool, true}
-use mathlib.Core.List.{List, []}
-use Prim.Native.Nat.{ℕ, _<_}
+use mathlib.Core.Bool.{Bool, true, _&&_}
+use mathlib.Core.List.{List, [], _∷_}
+use Prim.Native.Nat.{ℕ, _<_, _≤_}
+use lib.Dec.{ltb}
 use lib.ListN.{length}
-use Rattle.model.specs.House.{Command, House, Plain, Way, turn, house-at, set-house, way-at, pushed, can-know}
+use Rattle.model.specs.Mail.{every, Letter, in-box}
+use Rattle.model.specs.House.{Command, House, Plain, Box, turn, house-at, set-house, way-at, pushed, can-know, has-box, here-box, the-box, letter-of, target}
 use Rattle.model.specs.Run.{so-many}
 use Rattle.model.specs.Promise.{Never, first-house, known-taken, good-house, May, Mid}
+
+-- what n plain houses may become next: a house has its turn, or letters come from one to another, of which some are known there to have come
+pub data Becomes (n : ℕ) (w : Plain) : Plain → Type 0 where
+  turned : (c : ℕ) (a : Command) → c < n → Becomes n w (set-house w c (turn n c (house-at w c) a .next))
+  came : (c d more know : ℕ) → c < n → d < n → (c ≡ d → Never) → can-know w c d more know ≡ true → Becomes n w (pushed w c d more know)
 
 -- plain houses that can come about
 pub data Reached (n : ℕ) : Plain → Type 0 where
   begun : Reached n (so-many n (first-house n))
-  turned : {w : Plain} (c : ℕ) (a : Command) → c < n → Reached n w → Reached n (set-house w c (turn n c (house-at w c) a .next))
-  came : {w : Plain} (c d more know : ℕ) → c < n → d < n → (c ≡ d → Never) → can-know w c d more know ≡ true → Reached n w → Reached n (pushed w c d more know)
+  became : {w v : Plain} → Reached n w → Becomes n w v → Reached n v
+
+-- a house that can take any letter: there is a postmaster, everybody has a box "in", and rules pass on to houses that are there
+abbrev pub within : ℕ → List ℕ → Bool
+within n [] = true
+within n (d ∷ as₁) = ltb d n
+
+pub record Ready (n : ℕ) (h : House) : Type 0 where
+  pub staffed : 0 < length (h .people)
+  pub at-home : every (λ p. has-box (p .boxes) in-box) (h .people) ≡ true
+  pub on-to-houses : every (λ p. every (λ r. every (λ t. within n (target t)) (r .acts)) (p .rules)) (h .people) ≡ true
 
 -- n houses, each with a way to each and a count of what it took from each; no letter waits for its own house; what is known to have been taken was
 pub record Sound (n : ℕ) (w : Plain) : Type 0 where
@@ -22,6 +38,7 @@ pub record Sound (n : ℕ) (w : Plain) : Type 0 where
   pub own : (c : ℕ) → c < n → way-at (house-at w c .ways) c ≡ record { sent = 0; waiting = [] }
   pub known : (c d : ℕ) → c < n → d < n → known-taken w c d
   pub good : (c : ℕ) → c < n → good-house (house-at w c) ≡ true
+  pub ready : (c : ℕ) → c < n → Ready n (house-at w c)
 
 -- What can come about is sound.
 unfoldable pub Always-sound : Type 0

@@ -12,7 +12,7 @@ use Rattle.model.specs.House.{Command, House, Plain, Way, Out, turn, house-at,
 use Rattle.model.specs.Run.{so-many}
 use Rattle.model.specs.Promise.{Never, first-house, known-taken, good-house, good-box, rising, below}
 use Rattle.model.specs.Always.{Becomes, turned, came, Reached, begun, became, Ready, Sound, Always-sound}
-use Rattle.model.proofs.Places.{differ, house-at-is, way-at-is, house-at-same, house-at-other, length-set-house, way-at-other, length-set-way, no-way, no-house}
+use Rattle.model.proofs.Places.{differ, house-at-is, way-at-is, at-set-house, length-set-house, way-at-other, length-set-way, no-way, no-house}
 use Rattle.model.proofs.Deliver.{come-length-taken, come-taken-other}
 use Rattle.model.proofs.Numbers.{good-turn, good-come}
 use Rattle.model.proofs.Ready.{ready-turn, ready-come}
@@ -96,17 +96,12 @@ step-sound n w v t s = record {
     pair x y l k (inr h) = h
 
 -- A turn.
-module _ (n : ℕ) (w : Plain) (c : ℕ) (a : Command) (l : c < length w) where
+module _ (n : ℕ) (w : Plain) (c : ℕ) (a : Command) where
   abbrev new : House
   new = turn n c (house-at w c) a .next
 
-  -- a house is the one that had its turn, or as before
   at-turned : (P : ℕ → House → Type 0) → P c new → ((x : ℕ) → P x (house-at w x)) → (x : ℕ) → P x (house-at (set-house w c new) x)
-  at-turned P p q x = go (cases-eq x c)
-    where
-      go : (x ≡ c) ⊎ (x ≡ c → ⊥) → P x (house-at (set-house w c new) x)
-      go (inl e) = rw (e, house-at-same w c new l) p
-      go (inr ne) = rw (house-at-other w c x new ne) (q x)
+  at-turned P p = at-set-house w c new P (λ k. p)
 
   turned-step : Step n w (set-house w c new)
   turned-step =
@@ -127,7 +122,7 @@ good-knowing h d know g = g
 
 module _ (n : ℕ) (w : Plain) (c d more know : ℕ) (ne : c ≢ d) (lc : c < length w) (ld : d < length w) where
   -- a house is the one pushed to, the one that pushed, or as before
-  at-pushed : (P : ℕ → House → Type 0) → P d (after-more w c d more) → P c (knowing (house-at w c) d know) → ((x : ℕ) → P x (house-at w x)) →
+  pub at-pushed : (P : ℕ → House → Type 0) → P d (after-more w c d more) → P c (knowing (house-at w c) d know) → ((x : ℕ) → P x (house-at w x)) →
       (x : ℕ) → P x (house-at (pushed w c d more know) x)
   at-pushed P p q r x = go (cases-eq x c) (cases-eq x d)
     where
@@ -183,7 +178,7 @@ module _ (n : ℕ) (w : Plain) (c d more know : ℕ) (ne : c ≢ d) (lc : c < le
       pair x y (inr np) q = inl (other-pair x y (λ p q₁. np p))
 
 becomes-step : (n : ℕ) (w v : Plain) → Becomes n w v → Sound n w → Step n w v
-becomes-step n w v (turned c a l) s = turned-step n w c a (rw (s .houses) l)
+becomes-step n w v (turned c a l) s = turned-step n w c a
 becomes-step n w v (came c d more know lc ld ne can) s =
     pushed-step n w c d more know (differ c d ne) (rw (s .houses) lc) (rw (s .houses) ld) (rw (s .ways c lc) ld) (rw (s .taken d ld) lc) (s .known c d lc ld)
         (can-know-true w c d more know can)

@@ -13,3 +13,4 @@ pub mod Example
 pub mod Stays
 pub mod Boxes
 pub mod Ready
+pub mod Later

@@ -16,14 +16,14 @@ use Rattle.model.proofs.Deliver.{deliver-keeps}
 use Rattle.model.proofs.Turns.{turn-keeps, taken-out}
 
 -- every letter's number is above k
-abbrev above : ℕ → List Letter → Bool
+abbrev pub above : ℕ → List Letter → Bool
 above k ls = every (λ l. ltb k (l .number)) ls
 
 above-lower : (j k : ℕ) (ls : List Letter) → j ≤ k → above k ls ≡ true → above j ls ≡ true
 above-lower j k ls le = every-mono (λ l. ltb k (l .number)) (λ l. ltb j (l .number))
     (λ l h. let n : k < l .number = ltb-true k (l .number) h in lt-ltb j (l .number) (omega arith)) ls
 
-rising-first : (l : Letter) (ls : List Letter) → rising (l ∷ ls) ≡ true → (above (l .number) ls ≡ true) × (rising ls ≡ true)
+pub rising-first : (l : Letter) (ls : List Letter) → rising (l ∷ ls) ≡ true → (above (l .number) ls ≡ true) × (rising ls ≡ true)
 unfolding rising
 rising-first l [] h = (refl, refl)
 rising-first l (m ∷ ls) h =

@@ -2,13 +2,13 @@
 use mathlib.Core.Path.{_≡_, refl, sym, ap, _∙_}
 use mathlib.Core.Bool.{Bool, true, false, _&&_, not, false≢true}
 use mathlib.Core.List.{List, [], _∷_, _++_}
-use mathlib.Core.Logic.{_≢_}
+use mathlib.Core.Logic.{_≢_, _⊎_, inl, inr}
 use Prim.Native.Nat.{ℕ, zero, suc, _+_, _≤_, _<_}
 use native.Mathlib.Omega.{arith}
 use lib.ListN.{length, getD, set, take, drop, length-set}
 use lib.Seq.{getD-set-same, getD-set-other}
 use Rattle.std.proofs.shelf.Lists.{set-set, set-comm, set-past, take-all}
-use Rattle.std.proofs.shelf.Tests.{and-parts, and-from}
+use Rattle.std.proofs.shelf.Tests.{and-parts, and-from, cases-eq, cases-lt}
 use Rattle.model.specs.Mail.{pick, or, every, any, each, those}
 use Rattle.model.specs.House.{House, Person, Way, Plain, no-person, person-at, set-person, way-at, set-way, house-at, set-house, set-taken}
 use Rattle.model.specs.Device.{Page, page-at, set-page}
@@ -119,6 +119,9 @@ length-set-taken js c k = simp (as-lists, length-set)
 pub set-way-again : (ws : List Way) (d : ℕ) (v u : Way) → set-way (set-way ws d v) d u ≡ set-way ws d u
 set-way-again ws d v u = simp (as-lists, set-set)
 
+pub set-house-past : (w : Plain) (c : ℕ) (g : House) → length w ≤ c → set-house w c g ≡ w
+set-house-past w c g h = rw set-house-is (set-past w c g h)
+
 pub set-house-again : (w : Plain) (c : ℕ) (g h : House) → set-house (set-house w c g) c h ≡ set-house w c h
 set-house-again w c g h = simp (as-lists, set-set)
 
@@ -127,6 +130,26 @@ set-house-swap w c d g h ne = rw (set-house-is w c g, set-house-is w d h, set-ho
 
 pub take-length : {A : Type 0} (xs : List A) → take (length xs) xs ≡ xs
 take-length xs = take-all (length xs) xs (omega arith)
+
+-- somebody after a change of one person: that one, or as before
+pub at-set-person : (ps : List Person) (a : ℕ) (q : Person) (Q : ℕ → Person → Type 0) → (a < length ps → Q a q) → ((b : ℕ) → Q b (person-at ps b)) →
+    (b : ℕ) → Q b (person-at (set-person ps a q) b)
+at-set-person ps a q Q k r b = go (cases-eq b a) (cases-lt a (length ps))
+  where
+    go : (b ≡ a) ⊎ (b ≡ a → ⊥) → (a < length ps) ⊎ (length ps ≤ a) → Q b (person-at (set-person ps a q) b)
+    go (inl e) (inl l) = rw (e, person-at-same ps a q l) (k l)
+    go (inl e) (inr l) = rw (set-person-past ps a q l) (r b)
+    go (inr ne) l = rw (person-at-other ps a b q ne) (r b)
+
+-- a house after a change of one house: that one, or as before
+pub at-set-house : (w : Plain) (c : ℕ) (g : House) (Q : ℕ → House → Type 0) → (c < length w → Q c g) → ((x : ℕ) → Q x (house-at w x)) →
+    (x : ℕ) → Q x (house-at (set-house w c g) x)
+at-set-house w c g Q k r x = go (cases-eq x c) (cases-lt c (length w))
+  where
+    go : (x ≡ c) ⊎ (x ≡ c → ⊥) → (c < length w) ⊎ (length w ≤ c) → Q x (house-at (set-house w c g) x)
+    go (inl e) (inl l) = rw (e, house-at-same w c g l) (k l)
+    go (inl e) (inr l) = rw (set-house-past w c g l) (r x)
+    go (inr ne) l = rw (house-at-other w c x g ne) (r x)
 
 pub or-false : (a b : Bool) → or a b ≡ false → (a ≡ false) × (b ≡ false)
 or-false true b h = absurd (false≢true (sym h))

@@ -49,3 +49,14 @@ unfoldable pub Stays-reached : Type 0
 Stays-reached =
     (known : Command → Bool) (n pages : ℕ) (w : Plain) (c : ℕ) (text : List ℕ) (ss : List (List ℕ)) (v : Plain) → c < n → Reached n w →
     ((ls : ℕ) (up : Bool) (reply : ℕ) → May known pages w c text ls up ss reply v → Reached n v) × (Mid known w c text ss v → Reached n v)
+
+-- a box later on: its next number has not fallen, and whatever is found under a number given out before was found under it then, with the same bytes
+pub record Later (b c : Box) : Type 0 where
+  pub next : b .next ≤ c .next
+  pub found : (i : ℕ) (l : Letter) → i < b .next → letter-of (c .letters) i ≡ l ∷ [] → (k : Letter) × (letter-of (b .letters) i ≡ k ∷ []) × (k .bytes ≡ l .bytes)
+
+-- No number of a box is used again while the box is there.
+unfoldable pub Never-again : Type 0
+Never-again =
+    (n : ℕ) (w v : Plain) → Reached n w → Becomes n w v → (c a : ℕ) (nm : List ℕ) → c < n →
+    here-box (house-at w c) a nm ≡ true → here-box (house-at v c) a nm ≡ true → Later (the-box (house-at w c) a nm) (the-box (house-at v c) a nm)

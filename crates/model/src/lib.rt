@@ -1,6 +1,6 @@
 // The plain houses, the pages that they lie on, how a house runs, and what all of them promise: definitions in specs/, and here what
 // holds of them, each statement on the contract of a function. It knows nothing of how a house keeps what it has.
-ghost use Rattle.model.specs.Always.{Always-sound, Stays-reached};
+ghost use Rattle.model.specs.Always.{Always-sound, Stays-reached, Never-again};
 ghost use Rattle.model.specs.Example.{Two-islands};
 ghost use Rattle.model.specs.Known.{Core-from-nothing};
 ghost use Rattle.model.specs.Promise.{Ends, Others-stay, Flushed-stays, Not-lost, Taken-once, Parts-alike, Numbers-rise};
@@ -62,6 +62,12 @@ pub fn always_sound()
 // Whatever a command may leave, or a stop in its middle, by the main promise, can come about: so what always holds, holds of it.
 pub fn stays_reached()
     ensures { λ _. ⌜ Stays-reached ⌝ }
+{
+}
+
+// While a box is there its next number never falls, and under a number given out before no other letter is found: no number is used again.
+pub fn never_again()
+    ensures { λ _. ⌜ Never-again ⌝ }
 {
 }
 

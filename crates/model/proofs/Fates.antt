@@ -7,7 +7,7 @@ use Rattle.model.specs.Mail.{pick, or, any, same, none-of, Action, keep, file,
 use Rattle.model.specs.Promise.{Not-lost, says-away}
 use Rattle.model.proofs.Places.{or-false, pick-both}
 
-none-with-new : (n : List ℕ) (ns : List (List ℕ)) → none-of (with-new n ns) ≡ false
+pub none-with-new : (n : List ℕ) (ns : List (List ℕ)) → none-of (with-new n ns) ≡ false
 none-with-new n [] = refl
 none-with-new n (m ∷ ns) = pick-both (λ ms. none-of ms ≡ false) (any (same n) (m ∷ ns)) (m ∷ ns) ((m ∷ ns) ++ n ∷ []) refl refl
 

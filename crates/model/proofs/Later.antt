@@ -40,7 +40,7 @@ letter-of-other [] m i ne = rw (ne-eqb (m .number) i ne)
 letter-of-other (l ∷ ls) m i ne = ap (pick (eqb (l .number) i) (l ∷ [])) (letter-of-other ls m i ne)
 
 -- a letter more, under the next number; in a box of whatever name
-later-push : (n : List ℕ) (b : Box) (ms bs : List ℕ) →
+pub later-push : (n : List ℕ) (b : Box) (ms bs : List ℕ) →
     Later b (record { name = n; next = suc (b .next); letters = (b .letters) ++ record { number = b .next; marks = ms; bytes = bs } ∷ [] })
 later-push n b ms bs = record {
     next = omega arith;
@@ -97,10 +97,10 @@ pub record All-later (bs cs : List Box) : Type 0 where
   pub names : (n : List ℕ) → has-box cs n ≡ has-box bs n
   pub boxes : (n : List ℕ) → has-box bs n ≡ true → Later (box-of bs n) (box-of cs n)
 
-all-later-same : (bs : List Box) → All-later bs bs
+pub all-later-same : (bs : List Box) → All-later bs bs
 all-later-same bs = record { names = λ n. refl; boxes = λ n h. later-same (box-of bs n) }
 
-all-later-set : (bs cs : List Box) (b : Box) → has-box bs (b .name) ≡ true → Later (box-of bs (b .name)) b → All-later bs cs → All-later bs (set-box cs b)
+pub all-later-set : (bs cs : List Box) (b : Box) → has-box bs (b .name) ≡ true → Later (box-of bs (b .name)) b → All-later bs cs → All-later bs (set-box cs b)
 all-later-set bs cs b h l k = record {
     names = λ n. has-box-set cs b n ∙ k .names n;
     boxes = λ n i. at-name n i (cases-bool (same (b .name) n)) }
@@ -109,7 +109,7 @@ all-later-set bs cs b h l k = record {
     at-name n i (inl e) = rw (← same-true (b .name) n e, box-of-set cs b (k .names (b .name) ∙ h)) l
     at-name n i (inr e) = rw (box-of-set-other cs b n e) (k .boxes n i)
 
-all-later-put : (ms t : List ℕ) (bs : List Box) (ns : List (List ℕ)) (cs : List Box) → every (has-box bs) ns ≡ true → All-later bs cs → All-later bs (put-all ms t ns cs)
+pub all-later-put : (ms t : List ℕ) (bs : List Box) (ns : List (List ℕ)) (cs : List Box) → every (has-box bs) ns ≡ true → All-later bs cs → All-later bs (put-all ms t ns cs)
 unfolding put-all
 all-later-put ms t bs [] cs h k = k
 all-later-put ms t bs (n ∷ ns) cs h k =
@@ -120,7 +120,7 @@ all-later-put ms t bs (n ∷ ns) cs h k =
             (rw name (later-later (box-of bs n) (box-of cs n) _ (k .boxes n (hs .0)) (later-push n (box-of cs n) ms t))) k)
 
 -- A house.
-abbrev boxes-at : House → ℕ → List Box
+abbrev pub boxes-at : House → ℕ → List Box
 boxes-at h a = person-at (h .people) a .boxes
 
 -- changed boxes of one person, and everybody else's
@@ -133,7 +133,7 @@ pub record House-later (h g : House) : Type 0 where
   pub people : length (g .people) ≡ length (h .people)
   pub boxes : (a : ℕ) → All-later (boxes-at h a) (boxes-at g a)
 
-house-later-same : (h : House) → House-later h h
+pub house-later-same : (h : House) → House-later h h
 house-later-same h = record { people = refl; boxes = λ a. all-later-same (boxes-at h a) }
 
 change-later : (h g : House) (a : ℕ) (bs : List Box) → House-later h g → (a < length (g .people) → All-later (boxes-at h a) bs) → House-later h (change-boxes g a bs)
@@ -145,7 +145,7 @@ change-box-later : (h g : House) (a : ℕ) (nm : List ℕ) (b : Box) → b .name
     House-later h g → House-later h (change-box g a b)
 change-box-later h g a nm b e i l k = change-later h g a _ k (λ o. all-later-set (boxes-at h a) (boxes-at g a) b (rw e i) (subst (λ (m : List ℕ). Later (box-of (boxes-at h a) m) b) (sym e) l) (k .boxes a))
 
-put-here-later : (n : ℕ) (h : House) → Ready n h → (g : House) (a : ℕ) (ms t : List ℕ) (ns : List (List ℕ)) → House-later h g → House-later h (put-here g a ms t ns)
+pub put-here-later : (n : ℕ) (h : House) → Ready n h → (g : House) (a : ℕ) (ms t : List ℕ) (ns : List (List ℕ)) → House-later h g → House-later h (put-here g a ms t ns)
 put-here-later n h r g a ms t ns k =
     change-later h g a _ k
         (λ l.
@@ -155,7 +155,7 @@ put-here-later n h r g a ms t ns k =
                 (every-mono (has-box (boxes-at g a)) (has-box (boxes-at h a)) (λ m e. sym (k .boxes a .names m) ∙ e) (known-boxes (boxes-at g a) ns []) there)
                 (k .boxes a))
 
-deliver-later : (n : ℕ) (h : House) → Ready n h → (m c : ℕ) (t : List ℕ) (g : House) (a : ℕ) → House-later h g → House-later h (deliver m c t g a)
+pub deliver-later : (n : ℕ) (h : House) → Ready n h → (m c : ℕ) (t : List ℕ) (g : House) (a : ℕ) → House-later h g → House-later h (deliver m c t g a)
 deliver-later n h r m c t g a k =
     deliver-keeps (House-later h) c (put-here-later n h r) (λ f d o ne q. record { people = q .people; boxes = q .boxes }) m t g a k
 
@@ -191,7 +191,7 @@ dropped-later nm bs nm₁ j = go (cases-bool (same nm nm₁))
     go (inl e) = absurd (false≢true (sym (has-box-dropped nm bs) ∙ (rw (← same-true nm nm₁ e) at j)))
     go (inr e) = rw (box-of-without nm bs nm₁ e) (later-same (box-of bs nm₁))
 
-here-has : (h : House) (a : ℕ) (nm : List ℕ) → here-box h a nm ≡ true → has-box (boxes-at h a) nm ≡ true
+pub here-has : (h : House) (a : ℕ) (nm : List ℕ) → here-box h a nm ≡ true → has-box (boxes-at h a) nm ≡ true
 here-has h a nm t = and-parts (ltb a (length (h .people))) (has-box (boxes-at h a) nm) t .1
 
 rules-later : (h : House) (b : ℕ) (rs : List Rule) (a : ℕ) (nm : List ℕ) →

@@ -14,3 +14,4 @@ pub mod Stays
 pub mod Boxes
 pub mod Ready
 pub mod Later
+pub mod NotLost

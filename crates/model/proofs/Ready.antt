@@ -18,7 +18,7 @@ use Rattle.model.proofs.Turns.{turn-keeps, taken-out}
 abbrev has-in : Person → Bool
 has-in p = has-box (p .boxes) in-box
 
-abbrev rules-within : ℕ → List Rule → Bool
+abbrev pub rules-within : ℕ → List Rule → Bool
 rules-within n rs = every (λ r. every (λ t. within n (target t)) (r .acts)) rs
 
 pub has-in-at : (n : ℕ) (h : House) (a : ℕ) → Ready n h → a < length (h .people) → has-box (person-at (h .people) a .boxes) in-box ≡ true
@@ -42,7 +42,7 @@ ready-change n h a bs r i = ready-set-person n h a _ r (λ l. i (has-in-at n h a
 ready-change-box : (n : ℕ) (h : House) (a : ℕ) (b : Box) → Ready n h → Ready n (change-box h a b)
 ready-change-box n h a b r = ready-change n h a _ r (λ i. has-box-set (person-at (h .people) a .boxes) b in-box ∙ i)
 
-ready-put-here : (n : ℕ) (h : House) (a : ℕ) (ms bs : List ℕ) (ns : List (List ℕ)) → Ready n h → Ready n (put-here h a ms bs ns)
+pub ready-put-here : (n : ℕ) (h : House) (a : ℕ) (ms bs : List ℕ) (ns : List (List ℕ)) → Ready n h → Ready n (put-here h a ms bs ns)
 ready-put-here n h a ms bs ns r =
     ready-change n h a _ r (λ i. has-box-put-all ms bs (known-boxes (person-at (h .people) a .boxes) ns []) (person-at (h .people) a .boxes) in-box ∙ i)
 

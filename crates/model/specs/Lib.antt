@@ -6,3 +6,4 @@ pub mod Promise
 pub mod Known
 pub mod Always
 pub mod Example
+pub mod Delivered

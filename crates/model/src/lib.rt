@@ -1,6 +1,7 @@
 // The plain houses, the pages that they lie on, how a house runs, and what all of them promise: definitions in specs/, and here what
 // holds of them, each statement on the contract of a function. It knows nothing of how a house keeps what it has.
 ghost use Rattle.model.specs.Always.{Always-sound, Stays-reached, Never-again};
+ghost use Rattle.model.specs.Delivered.{Delivered};
 ghost use Rattle.model.specs.Example.{Two-islands};
 ghost use Rattle.model.specs.Known.{Core-from-nothing};
 ghost use Rattle.model.specs.Promise.{Ends, Others-stay, Flushed-stays, Not-lost, Taken-once, Parts-alike, Numbers-rise};
@@ -68,6 +69,13 @@ pub fn stays_reached()
 // While a box is there its next number never falls, and under a number given out before no other letter is found: no number is used again.
 pub fn never_again()
     ensures { λ _. ⌜ Never-again ⌝ }
+{
+}
+
+// No letter gets lost when it is delivered: it is last in a box here, or last among those that wait for another house, with one passing on fewer left,
+// or a rule here said "away".
+pub fn delivered()
+    ensures { λ _. ⌜ Delivered ⌝ }
 {
 }
 

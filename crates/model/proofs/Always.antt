@@ -11,13 +11,13 @@ use Rattle.model.specs.Mail.{same}
 use Rattle.model.specs.House.{Command, House, Plain, Way, Out, turn, house-at, set-house, way-at, pushed, can-know, not-taken, come}
 use Rattle.model.specs.Run.{so-many}
 use Rattle.model.specs.Promise.{Never, first-house, known-taken, good-house, good-box, rising, below}
-use Rattle.model.specs.Always.{Becomes, turned, came, Reached, begun, became, Ready, Sound, Always-sound}
+use Rattle.model.specs.Always.{Becomes, turned, came, Reached, begun, became, Ready, Sound, Always-sound, Pushes-in-parts}
 use Rattle.model.proofs.Places.{differ, house-at-is, way-at-is, at-set-house, length-set-house, way-at-other, length-set-way, no-way, no-house}
-use Rattle.model.proofs.Deliver.{come-length-taken, come-taken-other}
+use Rattle.model.proofs.Delivery.{come-length-taken, come-taken-other}
 use Rattle.model.proofs.Numbers.{good-turn, good-come}
 use Rattle.model.proofs.Ready.{ready-turn, ready-come}
 use Rattle.model.proofs.Ways.{Longer, Grown, longer-same, grown-same, come-grown, turn-apart}
-use Rattle.model.proofs.Pushing.{knowing, after-more, Knowable, can-know-true, pushed-here, pushed-there, pushed-elsewhere, length-pushed, taken-after, way-knowing}
+use Rattle.model.proofs.Pushing.{knowing, after-more, Knowable, can-know-true, pushed-here, pushed-there, pushed-elsewhere, length-pushed, taken-after, not-taken-after, rest-alike, way-knowing}
 
 -- The first houses.
 pub so-many-is : {A : Type 0} (n : ℕ) (x : A) → so-many n x ≡ replicate n x
@@ -190,3 +190,15 @@ sound-of {n} (became {w} {v} r b) = step-sound n w v (becomes-step n w v b (soun
 pub always-sound : Always-sound
 unfolding Always-sound
 always-sound n w r = sound-of r
+
+pub pushes-in-parts : Pushes-in-parts
+unfolding Pushes-in-parts known-taken
+pushes-in-parts n w c d more know r lc ld ne can =
+    let s = sound-of r in
+    let apart : c ≢ d = differ c d ne in
+    let k = can-know-true w c d more know can in
+    let hc : c < length w = rw (s .houses) lc in
+    let hd : d < length w = rw (s .houses) ld in
+    let lw : d < length (house-at w c .ways) = rw (s .ways c lc) ld in
+    let lt : c < length (house-at w d .taken) = rw (s .taken d ld) lc in
+    (not-taken-after w c d more know apart hc hd k lw lt (s .known c d lc ld .0), rest-alike w c d more know apart hc hd lw lt (s .known c d lc ld) k)

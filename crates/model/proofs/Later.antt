@@ -17,7 +17,7 @@ use Rattle.model.specs.Always.{Becomes, turned, came, Reached, Ready, Sound, L
 use Rattle.model.proofs.Places.{pick-both, pick-cases, person-at-is, length-set-person, at-set-person, at-set-house, differ, every-those, every-mono}
 use Rattle.model.proofs.Boxes.{same-true, same-refl, box-of-name, has-box-set, box-of-set, box-of-set-other, has-box-append, box-of-append, without-box, box-of-without, has-box-dropped, has-box-put-all, known-boxes-there}
 use Rattle.model.proofs.Numbers.{above, rising-first, good-parts, good-boxes-at, good-box-of}
-use Rattle.model.proofs.Deliver.{deliver-keeps}
+use Rattle.model.proofs.Delivery.{deliver-keeps}
 use Rattle.model.proofs.Turns.{turn-keeps, taken-out, with-one-more}
 use Rattle.model.proofs.Ready.{has-in-at}
 use Rattle.model.proofs.Always.{sound-of, at-pushed}

@@ -3,7 +3,6 @@ pub mod Places
 pub mod Device
 pub mod Delivery
 pub mod Fates
-pub mod Deliver
 pub mod Pushing
 pub mod Numbers
 pub mod Ways

@@ -12,7 +12,7 @@ use Rattle.model.specs.Mail.{pick, every, those, same, Letter, has-mark, in-bo
 use Rattle.model.specs.House.{Command, House, Person, Box, Out, turn, person-at, set-person, box-of, set-box, no-box, no-person, new-one, with-people, with-letters, put-letter, put-all, put-here, marked-so, without-mark, change-box, the-box, deliver, wait-for, come}
 use Rattle.model.specs.Promise.{rising, below, good-box, good-house, Numbers-rise}
 use Rattle.model.proofs.Places.{person-at-is, set-person-is, pick-both, every-append, every-those, every-set, every-getD-or, every-mono, pick-cases}
-use Rattle.model.proofs.Deliver.{deliver-keeps}
+use Rattle.model.proofs.Delivery.{deliver-keeps}
 use Rattle.model.proofs.Turns.{turn-keeps, taken-out}
 
 -- every letter's number is above k

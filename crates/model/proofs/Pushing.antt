@@ -14,7 +14,7 @@ use Rattle.std.proofs.shelf.Tests.{and-parts, and-from}
 use Rattle.model.specs.House.{House, Out, Way, Plain, way-at, set-way, house-at, set-house, come, not-taken, pushed, can-know}
 use Rattle.model.specs.Promise.{Never, known-taken, Taken-once, Parts-alike}
 use Rattle.model.proofs.Places.{differ, set-house-again, set-house-swap, set-way-again, take-length, house-at-same, house-at-other, way-at-same, length-set-house, length-set-way}
-use Rattle.model.proofs.Deliver.{come-append, come-taken}
+use Rattle.model.proofs.Delivery.{come-append, come-taken}
 
 -- a house that knows of so many more letters that house d has them
 abbrev pub knowing : House → ℕ → ℕ → House

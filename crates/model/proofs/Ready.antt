@@ -12,7 +12,7 @@ use Rattle.model.specs.House.{Command, House, Person, Box, Out, turn, person-a
 use Rattle.model.specs.Always.{within, Ready}
 use Rattle.model.proofs.Places.{person-at-is, set-person-is, length-set-person, every-append, every-set, every-getD, every-mono}
 use Rattle.model.proofs.Boxes.{has-box-set, has-box-append, has-box-without, has-box-put-all}
-use Rattle.model.proofs.Deliver.{deliver-keeps}
+use Rattle.model.proofs.Delivery.{deliver-keeps}
 use Rattle.model.proofs.Turns.{turn-keeps, taken-out}
 
 abbrev has-in : Person → Bool

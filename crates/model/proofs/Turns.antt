@@ -10,7 +10,8 @@ use borrow.Author.Tests.{ltb-true, eqb-false}
 use Rattle.std.proofs.shelf.Tests.{and-parts}
 use Rattle.model.specs.Mail.{pick, or, every, any, those, same, none-of, Letter, Rule, has-mark, in-box}
 use Rattle.model.specs.House.{Command, join, hand-in, boxes, new-box, drop-box, list, get, set-mark, to-box, clear, rules, find, push, House, Box, Out, Turn, turn, person-at, set-person, set-box, new-one, at-first, with-people, with-letters, letter-of, marked-so, change-boxes, change-box, here-box, the-box, has-box, known-target, target, deliver, wait-for}
-use Rattle.model.proofs.Places.{pick-both, pick-cases, or-false}
+use Rattle.model.specs.Promise.{Others-stay}
+use Rattle.model.proofs.Places.{pick-both, pick-cases, or-false, person-at-other, differ}
 
 -- at most one letter is found by its number
 pub letter-of-one : (ls : List Letter) (i : ℕ) → none-of (letter-of ls i) ≡ false → (l : Letter) × (letter-of ls i ≡ l ∷ [])
@@ -88,3 +89,14 @@ module _ (P : House → Type 0) (n c : ℕ) (h : House) (k : Changes P n c h) wh
           (λ l. k .none)
   turn-keeps (find a nm t) = pick-both N (here-box h a nm) _ _ (k .none) (k .none)
   turn-keeps (push d) = pick-both N (ltb d n && not (eqb d c)) _ _ (k .none) (k .none)
+
+-- A mark changes nothing of anybody else.
+pub others-stay : Others-stay
+unfolding Others-stay turn
+others-stay n c h a b nm i m v ne =
+    pick-both same-b (here-box h a nm) _ _
+        (pick-both same-b (none-of (letter-of (the-box h a nm .letters) i)) _ _ refl (person-at-other (h .people) a b _ (λ e. differ a b ne (sym e))))
+        refl
+  where
+    same-b : Turn → Type 0
+    same-b t = person-at (t .next .people) b ≡ person-at (h .people) b

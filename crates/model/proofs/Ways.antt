@@ -8,7 +8,7 @@ use Rattle.std.proofs.shelf.Lists.{append-assoc, append-nil, set-past}
 use Rattle.std.proofs.shelf.Tests.{cases-eq, cases-lt}
 use Rattle.model.specs.House.{Command, House, Out, Way, turn, way-at, set-way, deliver, come}
 use Rattle.model.proofs.Places.{set-way-is, way-at-same, way-at-other, length-set-way}
-use Rattle.model.proofs.Deliver.{deliver-keeps, deliver-taken}
+use Rattle.model.proofs.Delivery.{deliver-keeps, deliver-taken}
 use Rattle.model.proofs.Turns.{turn-keeps}
 
 -- a way with more letters at its end

@@ -4,9 +4,9 @@ use mathlib.Core.Bool.{Bool, true, _&&_}
 use mathlib.Core.List.{List, [], _∷_}
 use Prim.Native.Nat.{ℕ, _<_, _≤_}
 use lib.Dec.{ltb}
-use lib.ListN.{length}
+use lib.ListN.{length, drop}
 use Rattle.model.specs.Mail.{every, Letter, in-box}
-use Rattle.model.specs.House.{Command, House, Plain, Box, turn, house-at, set-house, way-at, pushed, can-know, has-box, here-box, the-box, letter-of, target}
+use Rattle.model.specs.House.{Command, House, Plain, Box, turn, house-at, set-house, way-at, not-taken, pushed, can-know, has-box, here-box, the-box, letter-of, target}
 use Rattle.model.specs.Run.{so-many}
 use Rattle.model.specs.Promise.{Never, first-house, known-taken, good-house, May, Mid}
 
@@ -60,3 +60,12 @@ unfoldable pub Never-again : Type 0
 Never-again =
     (n : ℕ) (w v : Plain) → Reached n w → Becomes n w v → (c a : ℕ) (nm : List ℕ) → c < n →
     here-box (house-at w c) a nm ≡ true → here-box (house-at v c) a nm ≡ true → Later (the-box (house-at w c) a nm) (the-box (house-at v c) a nm)
+
+-- However a push breaks off, what comes goes from the beginning of what is still to come; and with a push of the rest all is as after one push.
+unfoldable pub Pushes-in-parts : Type 0
+Pushes-in-parts =
+    (n : ℕ) (w : Plain) (c d more know : ℕ) → Reached n w → c < n → d < n → (c ≡ d → Never) → can-know w c d more know ≡ true →
+    let v : Plain = pushed w c d more know in
+    (not-taken v c d ≡ drop more (not-taken w c d))
+    × (pushed v c d (length (not-taken v c d)) (length (way-at (house-at v c .ways) d .waiting))
+        ≡ pushed w c d (length (not-taken w c d)) (length (way-at (house-at w c .ways) d .waiting)))

@@ -1,10 +1,10 @@
 // The plain houses, the pages that they lie on, how a house runs, and what all of them promise: definitions in specs/, and here what
 // holds of them, each statement on the contract of a function. It knows nothing of how a house keeps what it has.
-ghost use Rattle.model.specs.Always.{Always-sound, Stays-reached, Never-again};
+ghost use Rattle.model.specs.Always.{Always-sound, Never-again, Pushes-in-parts, Stays-reached};
 ghost use Rattle.model.specs.Delivered.{Delivered};
 ghost use Rattle.model.specs.Example.{Two-islands};
 ghost use Rattle.model.specs.Known.{Core-from-nothing};
-ghost use Rattle.model.specs.Promise.{Ends, Others-stay, Flushed-stays, Not-lost, Taken-once, Parts-alike, Numbers-rise};
+ghost use Rattle.model.specs.Promise.{Ends, Flushed-stays, Not-lost, Numbers-rise, Others-stay, Parts-alike, Taken-once};
 
 // The set of known commands grows one kind at a time, from none to the small core.
 pub fn core_from_nothing()
@@ -12,27 +12,15 @@ pub fn core_from_nothing()
 {
 }
 
-// A letter that may be passed on n times is passed on n times at most.
-pub fn ends()
-    ensures { λ _. ⌜ Ends ⌝ }
-{
-}
-
-// A mark changes nothing of anybody else.
-pub fn others_stay()
-    ensures { λ _. ⌜ Others-stay ⌝ }
-{
-}
-
-// What was flushed stays, whatever a stop leaves of later writes to other pages.
-pub fn flushed_stays()
-    ensures { λ _. ⌜ Flushed-stays ⌝ }
-{
-}
-
 // No letter gets lost by rules: it comes into some box, is passed on, or a rule said "away".
 pub fn not_lost()
     ensures { λ _. ⌜ Not-lost ⌝ }
+{
+}
+
+// Numbers in a box rise and stay below the next one, after any command.
+pub fn numbers_rise()
+    ensures { λ _. ⌜ Numbers-rise ⌝ }
 {
 }
 
@@ -48,13 +36,26 @@ pub fn parts_alike()
 {
 }
 
-// Numbers in a box rise and stay below the next one, after any command: none is used again.
-pub fn numbers_rise()
-    ensures { λ _. ⌜ Numbers-rise ⌝ }
+// A mark changes nothing of anybody else.
+pub fn others_stay()
+    ensures { λ _. ⌜ Others-stay ⌝ }
 {
 }
 
-// From the first houses on, after any turns and any parts of pushes: each house knows of no letter as taken that wasn't, and boxes are good.
+// A letter that may be passed on n times is passed on n times at most.
+pub fn ends()
+    ensures { λ _. ⌜ Ends ⌝ }
+{
+}
+
+// What was flushed stays, whatever a stop leaves of later writes to other pages.
+pub fn flushed_stays()
+    ensures { λ _. ⌜ Flushed-stays ⌝ }
+{
+}
+
+// From the first houses on, after any turns and any parts of pushes: no letter is known as taken that wasn't, none that was taken had not been
+// handed in, numbers in boxes rise, and every house can take any letter.
 pub fn always_sound()
     ensures { λ _. ⌜ Always-sound ⌝ }
 {
@@ -66,13 +67,19 @@ pub fn stays_reached()
 {
 }
 
+// However pushes break off, what comes goes from the beginning of what is still to come, and a push of the rest leaves all as after one push.
+pub fn pushes_in_parts()
+    ensures { λ _. ⌜ Pushes-in-parts ⌝ }
+{
+}
+
 // While a box is there its next number never falls, and under a number given out before no other letter is found: no number is used again.
 pub fn never_again()
     ensures { λ _. ⌜ Never-again ⌝ }
 {
 }
 
-// No letter gets lost when it is delivered: it is last in a box here, or last among those that wait for another house, with one passing on fewer left,
+// No letter gets lost when it is delivered: it is last in a box here, or last among those that wait for another house, with fewer passings on left,
 // or a rule here said "away".
 pub fn delivered()
     ensures { λ _. ⌜ Delivered ⌝ }

@@ -1,4 +1,4 @@
-use Rattle.model.proofs.Delivery.{others-stay}
+use Rattle.model.proofs.Turns.{others-stay}
 use Rattle.model.proofs.others_stay.Needs as need
 
 pub returns : need.returns

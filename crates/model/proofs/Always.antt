@@ -1,16 +1,16 @@
 -- From the first houses on: what is known to have been taken was, and boxes stay good, whatever is said and however pushes break off.
-use mathlib.Core.Path.{_≡_, refl, sym, ap, subst, _∙_}
-use mathlib.Core.Bool.{Bool, true, false}
-use mathlib.Core.List.{List, [], _∷_, _++_}
+use mathlib.Core.Path.{_≡_, refl, ap, _∙_}
+use mathlib.Core.Bool.{true}
+use mathlib.Core.List.{List, _∷_}
 use mathlib.Core.Logic.{_≢_, _⊎_, inl, inr}
-use Prim.Native.Nat.{ℕ, zero, suc, _+_, _-_, _≤_, _<_}
+use Prim.Native.Nat.{ℕ, zero, suc, _+_, _-_, _<_}
 use native.Mathlib.Omega.{arith}
-use lib.ListN.{length, getD, take, drop, replicate, length-replicate, getD-replicate, length-append, length-drop}
+use lib.ListN.{length, getD, take, replicate, length-replicate, getD-replicate, length-append, length-drop}
 use Rattle.std.proofs.shelf.Tests.{cases-eq}
 use Rattle.model.specs.Mail.{same}
-use Rattle.model.specs.House.{Command, House, Plain, Way, Out, turn, house-at, set-house, way-at, pushed, can-know, not-taken, come}
+use Rattle.model.specs.House.{Command, House, Plain, Way, turn, house-at, set-house, way-at, pushed, not-taken}
 use Rattle.model.specs.Run.{so-many}
-use Rattle.model.specs.Promise.{Never, first-house, known-taken, good-house, good-box, rising, below}
+use Rattle.model.specs.Promise.{first-house, known-taken, good-house, good-box, rising, below}
 use Rattle.model.specs.Always.{Becomes, turned, came, Reached, begun, became, Ready, Sound, Always-sound, Pushes-in-parts}
 use Rattle.model.proofs.Places.{differ, house-at-is, way-at-is, at-set-house, length-set-house, way-at-other, length-set-way, no-way, no-house}
 use Rattle.model.proofs.Delivery.{come-length-taken, come-taken-other}

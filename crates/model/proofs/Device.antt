@@ -1,13 +1,13 @@
 -- What a stop leaves of writes to other pages.
-use mathlib.Core.Path.{_≡_, refl, sym, ap, _∙_}
+use mathlib.Core.Path.{_≡_, refl, sym, _∙_}
 use mathlib.Core.Bool.{Bool, true, false, false≢true}
 use mathlib.Core.List.{List, [], _∷_}
 use mathlib.Core.Logic.{_≢_}
-use Prim.Native.Nat.{ℕ, zero, suc}
+use Prim.Native.Nat.{ℕ}
 use lib.Dec.{eqb}
 use borrow.Author.Tests.{eqb-false}
 use Rattle.model.specs.Mail.{pick}
-use Rattle.model.specs.Device.{Device, Page, Write, set-page, page-at, half, left, stopped, read-page, flushed}
+use Rattle.model.specs.Device.{Page, Write, set-page, page-at, half, left, flushed}
 use Rattle.model.specs.Promise.{Flushed-stays, elsewhere}
 use Rattle.model.proofs.Places.{page-at-other}
 

@@ -1,5 +1,5 @@
 -- The worked example, by computation.
-use mathlib.Core.Path.{_≡_, refl}
+use mathlib.Core.Path.{refl}
 use Rattle.model.specs.Mail.{same, in-bytes, line-of, after-line, head-lines, starts-with, holds, no-blanks, holds-for, acted, all-acted, ruled, fate}
 use Rattle.model.specs.House.{test-spelled, act-spelled, person-at, set-person, box-of, set-box, known-boxes, put-all, way-at, set-way, pass-on, deliver, letter-of, marks-bits, marked-so, turn, house-at, set-house, set-taken, come, pushed}
 use Rattle.model.specs.Run.{so-many}

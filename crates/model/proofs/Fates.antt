@@ -1,9 +1,9 @@
 -- No letter gets lost by rules.
-use mathlib.Core.Path.{_≡_, refl, sym, ap, _∙_}
+use mathlib.Core.Path.{_≡_, refl, sym, _∙_}
 use mathlib.Core.Bool.{Bool, true, false, _&&_, not, false≢true, true≢false}
 use mathlib.Core.List.{List, [], _∷_, _++_}
-use Prim.Native.Nat.{ℕ, zero, suc}
-use Rattle.model.specs.Mail.{pick, or, any, same, none-of, Action, keep, file, away, on-to, mark, halt, Rule, Fate, fresh, fate, acted, all-acted, ruled, with-new, holds-for, has-mark, in-box}
+use Prim.Native.Nat.{ℕ}
+use Rattle.model.specs.Mail.{pick, or, any, same, none-of, Action, keep, file, away, on-to, mark, halt, Rule, Fate, fresh, fate, acted, all-acted, ruled, with-new, holds-for, in-box}
 use Rattle.model.specs.Promise.{Not-lost, says-away}
 use Rattle.model.proofs.Places.{or-false, pick-both}
 

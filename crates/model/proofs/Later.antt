@@ -1,24 +1,24 @@
 -- No number of a box is used again while the box is there: what each change of a house does to its boxes.
 use mathlib.Core.Path.{_≡_, refl, sym, ap, subst, _∙_}
-use mathlib.Core.Bool.{Bool, true, false, _&&_, not, false≢true, true≢false}
+use mathlib.Core.Bool.{Bool, true, false, not, false≢true, true≢false}
 use mathlib.Core.List.{List, [], _∷_, _++_}
 use mathlib.Core.Logic.{_≢_, _⊎_, inl, inr}
-use Prim.Native.Nat.{ℕ, zero, suc, _+_, _≤_, _<_}
+use Prim.Native.Nat.{ℕ, suc, _≤_, _<_}
 use native.Mathlib.Omega.{arith}
 use lib.Dec.{eqb, ltb}
 use lib.ListN.{length, getD, take}
-use borrow.Author.Tests.{ltb-true, eqb-true, ne-eqb, eq-eqb}
+use borrow.Author.Tests.{ltb-true, eqb-true, ne-eqb}
 use Rattle.std.proofs.shelf.Lists.{getD-append-left, getD-past}
-use Rattle.std.proofs.shelf.Tests.{and-parts, and-from, cases-eq, cases-lt, cases-bool}
+use Rattle.std.proofs.shelf.Tests.{and-parts, cases-lt, cases-bool}
 use Rattle.model.specs.Mail.{pick, every, those, same, none-of, Letter, Rule, has-mark, in-box}
-use Rattle.model.specs.House.{Command, House, Plain, Person, Box, Out, turn, person-at, set-person, no-person, with-boxes, with-letters, has-box, here-box, the-box, box-of, set-box, put-letter, put-all, known-boxes, put-here, somebody, letter-of, marked-so, without-mark, change-boxes, change-box, deliver, come, house-at, not-taken}
+use Rattle.model.specs.House.{Command, House, Person, Box, Out, turn, person-at, set-person, no-person, with-boxes, with-letters, has-box, here-box, the-box, box-of, set-box, put-letter, put-all, known-boxes, put-here, letter-of, marked-so, without-mark, change-boxes, change-box, deliver, come, house-at, not-taken}
 use Rattle.model.specs.Promise.{rising, good-box, good-house}
-use Rattle.model.specs.Always.{Becomes, turned, came, Reached, Ready, Sound, Later, Never-again}
-use Rattle.model.proofs.Places.{pick-both, pick-cases, person-at-is, length-set-person, at-set-person, at-set-house, differ, every-those, every-mono}
-use Rattle.model.proofs.Boxes.{same-true, same-refl, box-of-name, has-box-set, box-of-set, box-of-set-other, has-box-append, box-of-append, without-box, box-of-without, has-box-dropped, has-box-put-all, known-boxes-there}
+use Rattle.model.specs.Always.{turned, came, Ready, Later, Never-again}
+use Rattle.model.proofs.Places.{person-at-is, length-set-person, at-set-person, at-set-house, differ, every-those, every-mono}
+use Rattle.model.proofs.Boxes.{same-true, box-of-name, has-box-set, box-of-set, box-of-set-other, box-of-append, without-box, box-of-without, has-box-dropped, known-boxes-there}
 use Rattle.model.proofs.Numbers.{above, rising-first, good-parts, good-boxes-at, good-box-of}
 use Rattle.model.proofs.Delivery.{deliver-keeps}
-use Rattle.model.proofs.Turns.{turn-keeps, taken-out, with-one-more}
+use Rattle.model.proofs.Turns.{turn-keeps, taken-out}
 use Rattle.model.proofs.Ready.{has-in-at}
 use Rattle.model.proofs.Always.{sound-of, at-pushed}
 

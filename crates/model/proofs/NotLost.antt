@@ -1,24 +1,24 @@
 -- No letter gets lost when it is delivered.
 use mathlib.Core.Path.{_≡_, refl, sym, ap, subst, _∙_}
-use mathlib.Core.Bool.{Bool, true, false, _&&_, not, false≢true, true≢false}
+use mathlib.Core.Bool.{true, false, _&&_, true≢false}
 use mathlib.Core.List.{List, [], _∷_, _++_}
-use mathlib.Core.Logic.{_≢_, _⊎_, inl, inr}
-use Prim.Native.Nat.{ℕ, zero, suc, _+_, _≤_, _<_}
+use mathlib.Core.Logic.{_⊎_, inl, inr}
+use Prim.Native.Nat.{ℕ, zero, suc, _<_}
 use native.Mathlib.Omega.{arith}
 use lib.Dec.{eqb, ltb}
 use lib.ListN.{length, getD}
 use borrow.Author.Tests.{ltb-true, lt-ltb, eqb-false}
 use Rattle.std.proofs.shelf.Tests.{and-parts, and-from, cases-bool}
 use Rattle.model.specs.Mail.{pick, every, any, same, none-of, Action, keep, file, away, on-to, mark, halt, Rule, Fate, Letter, fresh, fate, acted, all-acted, ruled, with-new, holds-for, in-box}
-use Rattle.model.specs.House.{House, Person, Box, Out, Way, person-at, set-person, with-boxes, has-box, here-box, the-box, box-of, set-box, put-letter, put-all, known-boxes, put-here, somebody, way-at, set-way, wait-for, pass-on, deliver, target, change-boxes}
-use Rattle.model.specs.Promise.{Never, says-away, Not-lost}
-use Rattle.model.specs.Always.{within, Ready, Later}
+use Rattle.model.specs.House.{House, Person, Box, Way, person-at, set-person, with-boxes, has-box, box-of, set-box, put-letter, put-all, known-boxes, put-here, somebody, way-at, pass-on, deliver, target}
+use Rattle.model.specs.Promise.{says-away, Not-lost}
+use Rattle.model.specs.Always.{within, Ready}
 use Rattle.model.specs.Delivered.{In-a-box, On-its-way, Said-away, Delivered}
 use Rattle.model.proofs.Places.{pick-both, pick-cases, every-append, every-mono, way-at-same, person-at-same, length-set-person, at-set-person}
 use Rattle.model.proofs.Boxes.{box-of-name, has-box-set, box-of-set, has-box-put-all, known-boxes-there}
 use Rattle.model.proofs.Fates.{none-with-new, not-lost}
 use Rattle.model.proofs.Ready.{rules-within, has-in-at, rules-at, ready-put-here}
-use Rattle.model.proofs.Later.{later-push, All-later, all-later-same, all-later-put, house-later-same, put-here-later, deliver-later, boxes-at, here-has}
+use Rattle.model.proofs.Later.{All-later, all-later-same, all-later-put, house-later-same, put-here-later, deliver-later, boxes-at, here-has}
 
 -- Rules that pass on to houses that are there name no others.
 people-within : ℕ → Fate → Type 0

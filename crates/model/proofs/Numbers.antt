@@ -1,15 +1,14 @@
 -- Numbers in a box rise, whatever is done with the box, and none is used again.
-use mathlib.Core.Path.{_≡_, refl, sym, ap, subst, _∙_}
-use mathlib.Core.Bool.{Bool, true, false, _&&_, not}
+use mathlib.Core.Path.{_≡_, refl}
+use mathlib.Core.Bool.{Bool, true, not}
 use mathlib.Core.List.{List, [], _∷_, _++_}
-use Prim.Native.Nat.{ℕ, zero, suc, _+_, _≤_, _<_}
+use Prim.Native.Nat.{ℕ, suc, _≤_, _<_}
 use native.Mathlib.Omega.{arith}
-use lib.Dec.{eqb, ltb, leb}
-use lib.ListN.{length, getD, set}
+use lib.Dec.{eqb, ltb}
 use borrow.Author.Tests.{ltb-true, lt-ltb, eqb-true}
 use Rattle.std.proofs.shelf.Tests.{and-parts, and-from}
-use Rattle.model.specs.Mail.{pick, every, those, same, Letter, has-mark, in-box}
-use Rattle.model.specs.House.{Command, House, Person, Box, Out, turn, person-at, set-person, box-of, set-box, no-box, no-person, new-one, with-people, with-letters, put-letter, put-all, put-here, marked-so, without-mark, change-box, the-box, deliver, wait-for, come}
+use Rattle.model.specs.Mail.{every, those, same, Letter, has-mark, in-box}
+use Rattle.model.specs.House.{Command, House, Person, Box, Out, turn, person-at, set-person, box-of, set-box, no-box, no-person, new-one, with-people, with-letters, put-letter, put-all, put-here, marked-so, change-box, the-box, deliver, wait-for, come}
 use Rattle.model.specs.Promise.{rising, below, good-box, good-house, Numbers-rise}
 use Rattle.model.proofs.Places.{person-at-is, set-person-is, pick-both, every-append, every-those, every-set, every-getD-or, every-mono, pick-cases}
 use Rattle.model.proofs.Delivery.{deliver-keeps}

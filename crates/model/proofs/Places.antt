@@ -1,15 +1,15 @@
 -- Places in lists: the lists of people, ways, houses and pages are lists as in the library, so that its laws hold of them; and what holds of each element.
-use mathlib.Core.Path.{_≡_, refl, sym, ap, _∙_}
-use mathlib.Core.Bool.{Bool, true, false, _&&_, not, false≢true}
+use mathlib.Core.Path.{_≡_, refl, sym, ap}
+use mathlib.Core.Bool.{Bool, true, false, false≢true}
 use mathlib.Core.List.{List, [], _∷_, _++_}
 use mathlib.Core.Logic.{_≢_, _⊎_, inl, inr}
-use Prim.Native.Nat.{ℕ, zero, suc, _+_, _≤_, _<_}
+use Prim.Native.Nat.{ℕ, zero, suc, _≤_, _<_}
 use native.Mathlib.Omega.{arith}
-use lib.ListN.{length, getD, set, take, drop, length-set}
+use lib.ListN.{length, getD, set, take, length-set}
 use lib.Seq.{getD-set-same, getD-set-other}
 use Rattle.std.proofs.shelf.Lists.{set-set, set-comm, set-past, take-all}
 use Rattle.std.proofs.shelf.Tests.{and-parts, and-from, cases-eq, cases-lt}
-use Rattle.model.specs.Mail.{pick, or, every, any, each, those}
+use Rattle.model.specs.Mail.{pick, or, every, those}
 use Rattle.model.specs.House.{House, Person, Way, Plain, no-person, person-at, set-person, way-at, set-way, house-at, set-house, set-taken}
 use Rattle.model.specs.Device.{Page, page-at, set-page}
 use Rattle.model.specs.Promise.{Never}

@@ -1,19 +1,19 @@
 -- Pushing: the two houses that change, what is still to come, and pushing in parts.
-use mathlib.Core.Path.{_≡_, refl, sym, ap, ap₂, _∙_}
-use mathlib.Core.Bool.{Bool, true, false, _&&_, not}
-use mathlib.Core.List.{List, [], _∷_, _++_}
+use mathlib.Core.Path.{_≡_, sym, ap, ap₂, _∙_}
+use mathlib.Core.Bool.{true}
+use mathlib.Core.List.{List}
 use mathlib.Core.Logic.{_≢_}
-use Prim.Native.Nat.{ℕ, zero, suc, _+_, _-_, _≤_, _<_}
+use Prim.Native.Nat.{ℕ, _+_, _-_, _≤_, _<_}
 use native.Mathlib.Omega.{arith}
 use native.Mathlib.Nat.{add-assoc}
-use lib.Dec.{eqb, ltb, leb}
-use lib.ListN.{length, getD, take, drop, set, take-append-drop, length-drop}
+use lib.Dec.{leb}
+use lib.ListN.{length, getD, take, drop, take-append-drop, length-drop}
 use borrow.Author.Tests.{leb-true, le-leb}
 use Rattle.std.proofs.shelf.Lists.{drop-drop, length-take-le}
 use Rattle.std.proofs.shelf.Tests.{and-parts, and-from}
 use Rattle.model.specs.House.{House, Out, Way, Plain, way-at, set-way, house-at, set-house, come, not-taken, pushed, can-know}
-use Rattle.model.specs.Promise.{Never, known-taken, Taken-once, Parts-alike}
-use Rattle.model.proofs.Places.{differ, set-house-again, set-house-swap, set-way-again, take-length, house-at-same, house-at-other, way-at-same, length-set-house, length-set-way}
+use Rattle.model.specs.Promise.{known-taken, Taken-once, Parts-alike}
+use Rattle.model.proofs.Places.{differ, set-house-again, set-house-swap, set-way-again, take-length, house-at-same, house-at-other, way-at-same, length-set-house}
 use Rattle.model.proofs.Delivery.{come-append, come-taken}
 
 -- a house that knows of so many more letters that house d has them

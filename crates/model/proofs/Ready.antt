@@ -1,14 +1,14 @@
 -- A house that can take any letter stays one: there is a postmaster, everybody has "in", and rules pass on to houses that are there.
-use mathlib.Core.Path.{_≡_, refl, sym, ap, _∙_}
-use mathlib.Core.Bool.{Bool, true, false, _&&_, not}
-use mathlib.Core.List.{List, [], _∷_, _++_}
-use Prim.Native.Nat.{ℕ, zero, suc, _+_, _≤_, _<_}
+use mathlib.Core.Path.{_≡_, refl, _∙_}
+use mathlib.Core.Bool.{Bool, true, not}
+use mathlib.Core.List.{List, [], _∷_}
+use Prim.Native.Nat.{ℕ, _<_}
 use native.Mathlib.Omega.{arith}
 use lib.Dec.{ltb, eqb}
-use lib.ListN.{length, getD, set, length-append}
-use Rattle.std.proofs.shelf.Tests.{and-parts, and-from}
-use Rattle.model.specs.Mail.{or, every, same, Action, Rule, in-box}
-use Rattle.model.specs.House.{Command, House, Person, Box, Out, turn, person-at, set-person, no-person, with-people, with-boxes, has-box, set-box, put-all, known-boxes, put-here, change-boxes, change-box, wait-for, deliver, come, target, known-target}
+use lib.ListN.{length, getD, length-append}
+use Rattle.std.proofs.shelf.Tests.{and-parts}
+use Rattle.model.specs.Mail.{or, every, same, Rule, in-box}
+use Rattle.model.specs.House.{Command, House, Person, Box, Out, turn, person-at, set-person, no-person, with-people, has-box, known-boxes, put-here, change-boxes, change-box, deliver, come, target, known-target}
 use Rattle.model.specs.Always.{within, Ready}
 use Rattle.model.proofs.Places.{person-at-is, set-person-is, length-set-person, every-append, every-set, every-getD, every-mono}
 use Rattle.model.proofs.Boxes.{has-box-set, has-box-append, has-box-without, has-box-put-all}

@@ -1,15 +1,14 @@
 -- Whatever the main promise lets a command leave, or a stop in its middle, can come about.
-use mathlib.Core.Path.{_≡_, refl, sym, ap, subst, _∙_}
-use mathlib.Core.Bool.{Bool, true, false, _&&_, not}
+use mathlib.Core.Path.{_≡_, sym}
+use mathlib.Core.Bool.{Bool, true, _&&_, not}
 use mathlib.Core.List.{List, []}
-use mathlib.Core.Logic.{_⊎_, ⊎-elim}
-use Prim.Native.Nat.{ℕ, zero, suc, _+_, _-_, _≤_, _<_}
+use mathlib.Core.Logic.{⊎-elim}
+use Prim.Native.Nat.{ℕ, _-_, _<_}
 use native.Mathlib.Omega.{arith}
 use lib.Dec.{eqb, ltb}
 use lib.ListN.{length, getD, length-drop}
 use borrow.Author.Tests.{ltb-true, eqb-false, not-true}
 use Rattle.std.proofs.shelf.Tests.{and-parts}
-use Rattle.model.specs.Mail.{pick}
 use Rattle.model.specs.House.{Command, push, House, Plain, Way, yes, no, turn, house-at, set-house, way-at, pushed, can-know, not-taken}
 use Rattle.model.specs.Promise.{Never, known-taken, May, Mid, Turn-may, Push-may, is-push}
 use Rattle.model.specs.Always.{turned, came, Reached, became, Stays-reached}

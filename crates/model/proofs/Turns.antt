@@ -1,15 +1,15 @@
 -- What a turn can do to a house: the changes, one by one. What all of them keep, every turn keeps.
-use mathlib.Core.Path.{_≡_, refl, sym, ap, _∙_}
+use mathlib.Core.Path.{_≡_, refl, sym}
 use mathlib.Core.Bool.{Bool, true, false, _&&_, not, false≢true}
 use mathlib.Core.List.{List, [], _∷_, _++_}
 use mathlib.Core.Logic.{_≢_}
-use Prim.Native.Nat.{ℕ, zero, suc, _<_}
+use Prim.Native.Nat.{ℕ, suc, _<_}
 use lib.Dec.{eqb, ltb, leb}
 use lib.ListN.{length}
 use borrow.Author.Tests.{ltb-true, eqb-false}
 use Rattle.std.proofs.shelf.Tests.{and-parts}
-use Rattle.model.specs.Mail.{pick, or, every, any, those, same, none-of, Letter, Rule, has-mark, in-box}
-use Rattle.model.specs.House.{Command, join, hand-in, boxes, new-box, drop-box, list, get, set-mark, to-box, clear, rules, find, push, House, Box, Out, Turn, turn, person-at, set-person, set-box, new-one, at-first, with-people, with-letters, letter-of, marked-so, change-boxes, change-box, here-box, the-box, has-box, known-target, target, deliver, wait-for}
+use Rattle.model.specs.Mail.{or, every, any, those, same, none-of, Letter, Rule, has-mark, in-box}
+use Rattle.model.specs.House.{Command, join, hand-in, boxes, new-box, drop-box, list, get, set-mark, to-box, clear, rules, find, push, House, Box, Out, Turn, turn, person-at, set-person, new-one, at-first, with-people, with-letters, letter-of, marked-so, change-boxes, change-box, here-box, the-box, has-box, known-target, target, deliver, wait-for}
 use Rattle.model.specs.Promise.{Others-stay}
 use Rattle.model.proofs.Places.{pick-both, pick-cases, or-false, person-at-other, differ}
 

@@ -1,6 +1,6 @@
 -- Two islands, worked out: one table of what is said to the houses and what they show, and what they have to keep in the end.
 use mathlib.Core.Path.{_≡_}
-use mathlib.Core.Bool.{Bool, true, false}
+use mathlib.Core.Bool.{true, false}
 use mathlib.Core.List.{List, [], _∷_, _++_}
 use Prim.Native.Nat.{ℕ}
 use Prim.Native.String.{String}
@@ -8,7 +8,7 @@ use lib.Chars.{codes}
 use lib.Dec.{eqb}
 use lib.ListN.{length}
 use Rattle.model.specs.Mail.{pick, each, Rule, always, field-has, field-is, longer, marked, neither, both, either, Action, file, away, mark, halt, on-to, in-box}
-use Rattle.model.specs.House.{Command, join, hand-in, boxes, new-box, drop-box, list, get, set-mark, to-box, clear, rules, find, push, House, Plain, turn, house-at, set-house, way-at, not-taken, pushed, can-know, weight}
+use Rattle.model.specs.House.{Command, join, hand-in, boxes, new-box, drop-box, list, get, set-mark, to-box, clear, rules, find, push, Plain, turn, house-at, set-house, way-at, not-taken, pushed, can-know, weight}
 use Rattle.model.specs.Run.{so-many, fault}
 use Rattle.model.specs.Promise.{first-house}
 

@@ -45,13 +45,14 @@ first-ready n = record { staffed = omega arith; at-home = refl; on-to-houses = r
 begun-sound : (n : ℕ) → Sound n (so-many n (first-house n))
 unfolding known-taken
 begun-sound n = record {
-    houses = rw (so-many-is n (first-house n)) (length-replicate n (first-house n));
-    ways = λ c l. rw (first-at n c l, so-many-is n no-way) (length-replicate n no-way);
-    taken = λ c l. rw (first-at n c l, so-many-is {A = ℕ} n 0) (length-replicate {A = ℕ} n 0);
-    own = λ c l. rw (first-at n c l) (first-way n c l);
-    known = λ c d l k. rw (first-at n c l, first-at n d k, first-way n d k, first-taken n c l) (omega arith);
-    good = λ c l. rw (first-at n c l) (first-good n);
-    ready = λ c l. rw (first-at n c l) (first-ready n) }
+  houses = rw (so-many-is n (first-house n)) (length-replicate n (first-house n));
+  ways = λ c l. rw (first-at n c l, so-many-is n no-way) (length-replicate n no-way);
+  taken = λ c l. rw (first-at n c l, so-many-is {A = ℕ} n 0) (length-replicate {A = ℕ} n 0);
+  own = λ c l. rw (first-at n c l) (first-way n c l);
+  known = λ c d l k. rw (first-at n c l, first-at n d k, first-way n d k, first-taken n c l) (omega arith);
+  good = λ c l. rw (first-at n c l) (first-good n);
+  ready = λ c l. rw (first-at n c l) (first-ready n);
+}
 
 -- A pair of houses is as before, but that more letters may wait.
 pub record As-before (w v : Plain) (x y : ℕ) : Type 0 where
@@ -62,7 +63,7 @@ known-before : (w v : Plain) (x y : ℕ) → As-before w v x y → known-taken w
 unfolding known-taken
 known-before w v x y b k =
     let len : length (way-at (house-at v x .ways) y .waiting) ≡ length (way-at (house-at w x .ways) y .waiting) + length (b .way .more) =
-        ap length (b .way .waiting) ∙ length-append (way-at (house-at w x .ways) y .waiting) (b .way .more) in
+    ap length (b .way .waiting) ∙ length-append (way-at (house-at w x .ways) y .waiting) (b .way .more) in
     omega (arith, b .way .sent, b .taken, k .0, k .1)
 
 -- What a step keeps: of each house, and of each two.
@@ -83,13 +84,14 @@ record Step (n : ℕ) (w v : Plain) : Type 0 where
 
 step-sound : (n : ℕ) (w v : Plain) → Step n w v → Sound n w → Sound n v
 step-sound n w v t s = record {
-    houses = t .houses ∙ s .houses;
-    ways = λ x l. t .house x .ways ∙ s .ways x l;
-    taken = λ x l. t .house x .taken ∙ s .taken x l;
-    own = λ x l. t .house x .own ∙ s .own x l;
-    known = λ x y l k. pair x y l k (t .pairs x y);
-    good = λ x l. t .house x .good (s .good x l);
-    ready = λ x l. t .house x .ready (s .ready x l) }
+  houses = t .houses ∙ s .houses;
+  ways = λ x l. t .house x .ways ∙ s .ways x l;
+  taken = λ x l. t .house x .taken ∙ s .taken x l;
+  own = λ x l. t .house x .own ∙ s .own x l;
+  known = λ x y l k. pair x y l k (t .pairs x y);
+  good = λ x l. t .house x .good (s .good x l);
+  ready = λ x l. t .house x .ready (s .ready x l);
+}
   where
     pair : (x y : ℕ) → x < n → y < n → As-before w v x y ⊎ known-taken v x y → known-taken v x y
     pair x y l k (inl b) = known-before w v x y b (s .known x y l k)
@@ -107,13 +109,15 @@ module _ (n : ℕ) (w : Plain) (c : ℕ) (a : Command) where
   turned-step =
       let apart = turn-apart n c (house-at w c) a in
       record {
-          houses = length-set-house w c new;
-          house = at-turned (λ x h. Kept n x (house-at w x) h)
-              (record { ways = apart .0 .length-is; taken = ap length (apart .1); own = apart .0 .own; good = good-turn n c (house-at w c) a; ready = ready-turn n c (house-at w c) a })
-              (λ x. kept-same n x (house-at w x));
-          pairs = λ x y. inl (record {
-              way = at-turned (λ z h. Longer (way-at (house-at w z .ways) y) (way-at (h .ways) y)) (apart .0 .each y) (λ z. longer-same (way-at (house-at w z .ways) y)) x;
-              taken = at-turned (λ z h. getD (h .taken) x 0 ≡ getD (house-at w z .taken) x 0) (ap (λ (js : List ℕ). getD js x 0) (apart .1)) (λ z. refl) y }) }
+        houses = length-set-house w c new;
+        house = at-turned (λ x h. Kept n x (house-at w x) h)
+            (record { ways = apart .0 .length-is; taken = ap length (apart .1); own = apart .0 .own; good = good-turn n c (house-at w c) a; ready = ready-turn n c (house-at w c) a })
+            (λ x. kept-same n x (house-at w x));
+        pairs = λ x y. inl (record {
+          way = at-turned (λ z h. Longer (way-at (house-at w z .ways) y) (way-at (h .ways) y)) (apart .0 .each y) (λ z. longer-same (way-at (house-at w z .ways) y)) x;
+          taken = at-turned (λ z h. getD (h .taken) x 0 ≡ getD (house-at w z .taken) x 0) (ap (λ (js : List ℕ). getD js x 0) (apart .1)) (λ z. refl) y;
+        });
+      }
 
 -- A push, or part of one.
 good-knowing : (h : House) (d know : ℕ) → good-house h ≡ true → good-house (knowing h d know) ≡ true
@@ -136,14 +140,15 @@ module _ (n : ℕ) (w : Plain) (c d more know : ℕ) (ne : c ≢ d) (lc : c < le
 
   other-pair : (x y : ℕ) → (x ≡ c → y ≡ d → ⊥) → As-before w (pushed w c d more know) x y
   other-pair x y other = record {
-      way = at-pushed (λ z h. (z ≡ c → y ≡ d → ⊥) → Longer (way-at (house-at w z .ways) y) (way-at (h .ways) y))
-          (λ o. grown-there .each y)
-          (λ o. let yd : y ≢ d = o refl in rw (way-at-other (house-at w c .ways) d y _ yd) (longer-same (way-at (house-at w c .ways) y)))
-          (λ z o. longer-same (way-at (house-at w z .ways) y)) x other;
-      taken = at-pushed (λ z h. (x ≡ c → z ≡ d → ⊥) → getD (h .taken) x 0 ≡ getD (house-at w z .taken) x 0)
-          (λ o. come-taken-other c d (take more (not-taken w c d)) (house-at w d) x (λ e. o e refl))
-          (λ o. refl)
-          (λ z o. refl) y other }
+    way = at-pushed (λ z h. (z ≡ c → y ≡ d → ⊥) → Longer (way-at (house-at w z .ways) y) (way-at (h .ways) y))
+        (λ o. grown-there .each y)
+        (λ o. let yd : y ≢ d = o refl in rw (way-at-other (house-at w c .ways) d y _ yd) (longer-same (way-at (house-at w c .ways) y)))
+        (λ z o. longer-same (way-at (house-at w z .ways) y)) x other;
+    taken = at-pushed (λ z h. (x ≡ c → z ≡ d → ⊥) → getD (h .taken) x 0 ≡ getD (house-at w z .taken) x 0)
+        (λ o. come-taken-other c d (take more (not-taken w c d)) (house-at w d) x (λ e. o e refl))
+        (λ o. refl)
+        (λ z o. refl) y other;
+  }
 
   this-pair : d < length (house-at w c .ways) → c < length (house-at w d .taken) → known-taken w c d → Knowable w c d more know → known-taken (pushed w c d more know) c d
   unfolding known-taken
@@ -151,26 +156,29 @@ module _ (n : ℕ) (w : Plain) (c d more know : ℕ) (ne : c ≢ d) (lc : c < le
       let way : Way = way-at (house-at w c .ways) d in
       let had : ℕ = getD (house-at w d .taken) c 0 in
       rw (taken-after w c d more know ne ld lt (k .comes), pushed-here w c d more know ne lc, way-knowing (house-at w c) d know lw)
-          (k .known, omega (arith, k .comes, k .known, kt .0, kt .1, length-drop know (way .waiting), length-drop (had - way .sent) (way .waiting)))
+      (k .known, omega (arith, k .comes, k .known, kt .0, kt .1, length-drop know (way .waiting), length-drop (had - way .sent) (way .waiting)))
 
   pushed-step : d < length (house-at w c .ways) → c < length (house-at w d .taken) → known-taken w c d → Knowable w c d more know → Step n w (pushed w c d more know)
   pushed-step lw lt kt k = record {
-      houses = length-pushed w c d more know ne;
-      house = at-pushed (λ x h. Kept n x (house-at w x) h)
-          (record {
-              ways = grown-there .length-is;
-              taken = come-length-taken c d (take more (not-taken w c d)) (house-at w d);
-              own = grown-there .own;
-              good = good-come c d (take more (not-taken w c d)) (house-at w d);
-              ready = ready-come n c d (take more (not-taken w c d)) (house-at w d) })
-          (record {
-              ways = length-set-way (house-at w c .ways) d _;
-              taken = refl;
-              own = way-at-other (house-at w c .ways) d c _ ne;
-              good = good-knowing (house-at w c) d know;
-              ready = λ r. record { staffed = r .staffed; at-home = r .at-home; on-to-houses = r .on-to-houses } })
-          (λ x. kept-same n x (house-at w x));
-      pairs = λ x y. pair x y (cases-eq x c) (cases-eq y d) }
+    houses = length-pushed w c d more know ne;
+    house = at-pushed (λ x h. Kept n x (house-at w x) h)
+        (record {
+          ways = grown-there .length-is;
+          taken = come-length-taken c d (take more (not-taken w c d)) (house-at w d);
+          own = grown-there .own;
+          good = good-come c d (take more (not-taken w c d)) (house-at w d);
+          ready = ready-come n c d (take more (not-taken w c d)) (house-at w d);
+        })
+        (record {
+          ways = length-set-way (house-at w c .ways) d _;
+          taken = refl;
+          own = way-at-other (house-at w c .ways) d c _ ne;
+          good = good-knowing (house-at w c) d know;
+          ready = λ r. record { staffed = r .staffed; at-home = r .at-home; on-to-houses = r .on-to-houses };
+        })
+        (λ x. kept-same n x (house-at w x));
+    pairs = λ x y. pair x y (cases-eq x c) (cases-eq y d);
+  }
     where
       pair : (x y : ℕ) → (x ≡ c) ⊎ (x ≡ c → ⊥) → (y ≡ d) ⊎ (y ≡ d → ⊥) → As-before w (pushed w c d more know) x y ⊎ known-taken (pushed w c d more know) x y
       pair x y (inl p) (inl q) = inr (rw (p, q) (this-pair lw lt kt k))
@@ -181,7 +189,7 @@ becomes-step : (n : ℕ) (w v : Plain) → Becomes n w v → Sound n w → Step 
 becomes-step n w v (turned c a l) s = turned-step n w c a
 becomes-step n w v (came c d more know lc ld ne can) s =
     pushed-step n w c d more know (differ c d ne) (rw (s .houses) lc) (rw (s .houses) ld) (rw (s .ways c lc) ld) (rw (s .taken d ld) lc) (s .known c d lc ld)
-        (can-know-true w c d more know can)
+    (can-know-true w c d more know can)
 
 pub sound-of : {n : ℕ} {w : Plain} → Reached n w → Sound n w
 sound-of {n} begun = begun-sound n

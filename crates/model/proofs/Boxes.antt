@@ -42,8 +42,8 @@ unfolding set-box
 has-box-set [] c n = refl
 has-box-set (b ∷ bs) c n =
     pick-cases (λ cs. has-box cs n ≡ has-box (b ∷ bs) n) (same (b .name) (c .name)) (c ∷ bs) (b ∷ set-box bs c)
-        (λ e. rw (same-true (b .name) (c .name) e))
-        (λ e. ap (or (same (b .name) n)) (has-box-set bs c n))
+    (λ e. rw (same-true (b .name) (c .name) e))
+    (λ e. ap (or (same (b .name) n)) (has-box-set bs c n))
 
 pub box-of-set : (bs : List Box) (c : Box) → has-box bs (c .name) ≡ true → box-of (set-box bs c) (c .name) ≡ c
 unfolding set-box box-of
@@ -60,8 +60,8 @@ unfolding set-box box-of
 box-of-set-other [] c n h = refl
 box-of-set-other (b ∷ bs) c n h =
     pick-cases (λ cs. box-of cs n ≡ box-of (b ∷ bs) n) (same (b .name) (c .name)) (c ∷ bs) (b ∷ set-box bs c)
-        (λ e. rw (h, same-other (b .name) (c .name) n e h))
-        (λ e. ap (pick (same (b .name) n) b) (box-of-set-other bs c n h))
+    (λ e. rw (h, same-other (b .name) (c .name) n e h))
+    (λ e. ap (pick (same (b .name) n) b) (box-of-set-other bs c n h))
 
 pub has-box-append : (bs cs : List Box) (n : List ℕ) → has-box bs n ≡ true → has-box (bs ++ cs) n ≡ true
 has-box-append [] cs n h = absurd (false≢true h)
@@ -122,6 +122,6 @@ unfolding known-boxes
 known-boxes-there bs [] so i h = h
 known-boxes-there bs (n ∷ ns) so i h =
     known-boxes-there bs ns (with-new (pick (has-box bs n) n in-box) so) i
-        (pick-both (λ ms. every (has-box bs) ms ≡ true) (any (same (pick (has-box bs n) n in-box)) so) so _ h
-            (every-append (has-box bs) so _ h
-                (and-from _ true (pick-cases (λ m. has-box bs m ≡ true) (has-box bs n) n in-box (λ e. e) (λ e. i)) refl)))
+    (pick-both (λ ms. every (has-box bs) ms ≡ true) (any (same (pick (has-box bs n) n in-box)) so) so _ h
+    (every-append (has-box bs) so _ h
+    (and-from _ true (pick-cases (λ m. has-box bs m ≡ true) (has-box bs n) n in-box (λ e. e) (λ e. i)) refl)))

@@ -31,7 +31,7 @@ module _ (P : House → Type 0) (c : ℕ) (put : (h : House) (a : ℕ) (ms bs : 
   deliver-keeps zero bs h a q = put h (somebody h a) [] bs (in-box ∷ []) q
   deliver-keeps (suc n) bs h a q =
       pass-on-keeps (λ g b. deliver n c bs g b) (λ g b r. deliver-keeps n bs g b r) n (fate (person-at (h .people) (somebody h a) .rules) bs .people) bs _
-          (put h (somebody h a) (fate (person-at (h .people) (somebody h a) .rules) bs .marks) bs (fate (person-at (h .people) (somebody h a) .rules) bs .boxes) q)
+      (put h (somebody h a) (fate (person-at (h .people) (somebody h a) .rules) bs .marks) bs (fate (person-at (h .people) (somebody h a) .rules) bs .boxes) q)
 
 pub deliver-taken : (n c : ℕ) (bs : List ℕ) (h : House) (a : ℕ) → deliver n c bs h a .taken ≡ h .taken
 deliver-taken n c bs h a = deliver-keeps (λ g. g .taken ≡ h .taken) c (λ g a₁ ms bs₁ ns q. q) (λ g d o ne q. q) n bs h a refl
@@ -57,9 +57,9 @@ come-taken c d (o ∷ os) g h =
     let same : k .taken ≡ g .taken = deliver-taken (o .left) d (o .bytes) g (o .person) in
     let l : c < length (k .taken) = rw same h in
     let one : getD (set-taken (k .taken) c (suc (getD (k .taken) c 0))) c 0 ≡ suc (getD (g .taken) c 0) =
-        rw (set-taken-is (k .taken) c (suc (getD (k .taken) c 0)), getD-set-same (k .taken) c (suc (getD (k .taken) c 0)) 0, same) refl in
+    rw (set-taken-is (k .taken) c (suc (getD (k .taken) c 0)), getD-set-same (k .taken) c (suc (getD (k .taken) c 0)) 0, same) refl in
     let rest = come-taken c d os (record { people = k .people; ways = k .ways; taken = set-taken (k .taken) c (suc (getD (k .taken) c 0)) })
-        (rw length-set-taken l) in
+    (rw length-set-taken l) in
     omega (arith, rest, one)
 
 pub come-taken-other : (c d : ℕ) (os : List Out) (g : House) (e : ℕ) → e ≢ c → getD (come c d os g .taken) e 0 ≡ getD (g .taken) e 0

@@ -38,7 +38,7 @@ unfolding all-acted
 found-all-acted [] f h k = k
 found-all-acted (a ∷ acts) f h k =
     found-all-acted acts (pick (f .goes-on) (acted a f) f) (or-false (says-away a) (any says-away acts) h .1)
-        (pick-both (λ g. found g ≡ true) (f .goes-on) (acted a f) f (found-acted a f (or-false (says-away a) (any says-away acts) h .0) k) k)
+    (pick-both (λ g. found g ≡ true) (f .goes-on) (acted a f) f (found-acted a f (or-false (says-away a) (any says-away acts) h .0) k) k)
 
 found-ruled : (rs : List Rule) (bs : List ℕ) (f : Fate) → any (λ r. any says-away (r .acts)) rs ≡ false → found f ≡ true → found (ruled rs bs f) ≡ true
 unfolding ruled
@@ -46,7 +46,7 @@ found-ruled [] bs f h k = k
 found-ruled (r ∷ rs) bs f h k =
     let h₂ = or-false (any says-away (r .acts)) (any (λ (q : Rule). any says-away (q .acts)) rs) h in
     found-ruled rs bs (pick ((f .goes-on) && holds-for (f .marks) bs (r .test)) (all-acted (r .acts) f) f) (h₂ .1)
-        (pick-both (λ g. found g ≡ true) ((f .goes-on) && holds-for (f .marks) bs (r .test)) (all-acted (r .acts) f) f (found-all-acted (r .acts) f (h₂ .0) k) k)
+    (pick-both (λ g. found g ≡ true) ((f .goes-on) && holds-for (f .marks) bs (r .test)) (all-acted (r .acts) f) f (found-all-acted (r .acts) f (h₂ .0) k) k)
 
 -- what is not to be kept any more, and in no box and on no way, is not found
 nowhere : (f : Fate) → found f ≡ true → none-of (pick (f .still) (acted keep f) f .boxes) ≡ true → none-of (pick (f .still) (acted keep f) f .people) ≡ true → ⊥

@@ -28,11 +28,12 @@ later-same b = record { next = omega arith; found = λ i l h e. (l, e, refl) }
 
 pub later-later : (b c d : Box) → Later b c → Later c d → Later b d
 later-later b c d p q = record {
-    next = omega (arith, p .next, q .next);
-    found = λ i l h e.
-        let k = q .found i l (omega (arith, p .next)) e in
-        let m = p .found i (k .0) h (k .1) in
-        (m .0, m .1, m .2 ∙ k .2) }
+  next = omega (arith, p .next, q .next);
+  found = λ i l h e.
+      let k = q .found i l (omega (arith, p .next)) e in
+      let m = p .found i (k .0) h (k .1) in
+      (m .0, m .1, m .2 ∙ k .2);
+}
 
 letter-of-other : (ls : List Letter) (m : Letter) (i : ℕ) → m .number ≢ i → letter-of (ls ++ m ∷ []) i ≡ letter-of ls i
 unfolding letter-of
@@ -43,8 +44,9 @@ letter-of-other (l ∷ ls) m i ne = ap (pick (eqb (l .number) i) (l ∷ [])) (le
 pub later-push : (n : List ℕ) (b : Box) (ms bs : List ℕ) →
     Later b (record { name = n; next = suc (b .next); letters = (b .letters) ++ record { number = b .next; marks = ms; bytes = bs } ∷ [] })
 later-push n b ms bs = record {
-    next = omega arith;
-    found = λ i l h e. (l, sym (letter-of-other (b .letters) (record { number = b .next; marks = ms; bytes = bs }) i (omega arith)) ∙ e, refl) }
+  next = omega arith;
+  found = λ i l h e. (l, sym (letter-of-other (b .letters) (record { number = b .next; marks = ms; bytes = bs }) i (omega arith)) ∙ e, refl);
+}
 
 -- none is found below all numbers
 letter-of-above : (k i : ℕ) (ls : List Letter) → i ≤ k → above k ls ≡ true → letter-of ls i ≡ []
@@ -78,6 +80,7 @@ found-marked m v j (x ∷ ls) i l = go (eqb (x .number) j) refl (eqb (x .number)
   where
     new : Letter
     new = record { number = j; marks = pick v (without-mark m (x .marks) ++ m ∷ []) (without-mark m (x .marks)); bytes = x .bytes }
+
     go : (t : Bool) → eqb (x .number) j ≡ t → (u : Bool) → eqb (x .number) i ≡ u →
         (letter-of (marked-so m v j ls) i ≡ l ∷ [] → (k : Letter) × (letter-of ls i ≡ k ∷ []) × (k .bytes ≡ l .bytes)) →
         letter-of (pick t (new ∷ ls) (x ∷ marked-so m v j ls)) i ≡ l ∷ [] → (k : Letter) × (pick u (x ∷ []) (letter-of ls i) ≡ k ∷ []) × (k .bytes ≡ l .bytes)
@@ -102,8 +105,9 @@ all-later-same bs = record { names = λ n. refl; boxes = λ n h. later-same (box
 
 pub all-later-set : (bs cs : List Box) (b : Box) → has-box bs (b .name) ≡ true → Later (box-of bs (b .name)) b → All-later bs cs → All-later bs (set-box cs b)
 all-later-set bs cs b h l k = record {
-    names = λ n. has-box-set cs b n ∙ k .names n;
-    boxes = λ n i. at-name n i (cases-bool (same (b .name) n)) }
+  names = λ n. has-box-set cs b n ∙ k .names n;
+  boxes = λ n i. at-name n i (cases-bool (same (b .name) n));
+}
   where
     at-name : (n : List ℕ) → has-box bs n ≡ true → (same (b .name) n ≡ true) ⊎ (same (b .name) n ≡ false) → Later (box-of bs n) (box-of (set-box cs b) n)
     at-name n i (inl e) = rw (← same-true (b .name) n e, box-of-set cs b (k .names (b .name) ∙ h)) l
@@ -116,8 +120,8 @@ all-later-put ms t bs (n ∷ ns) cs h k =
     let hs = and-parts (has-box bs n) (every (has-box bs) ns) h in
     let name : box-of cs n .name ≡ n = box-of-name cs n (k .names n ∙ hs .0) in
     all-later-put ms t bs ns _ (hs .1)
-        (all-later-set bs cs (put-letter ms t (box-of cs n)) (rw name (hs .0))
-            (rw name (later-later (box-of bs n) (box-of cs n) _ (k .boxes n (hs .0)) (later-push n (box-of cs n) ms t))) k)
+    (all-later-set bs cs (put-letter ms t (box-of cs n)) (rw name (hs .0))
+    (rw name (later-later (box-of bs n) (box-of cs n) _ (k .boxes n (hs .0)) (later-push n (box-of cs n) ms t))) k)
 
 -- A house.
 abbrev pub boxes-at : House → ℕ → List Box
@@ -138,8 +142,9 @@ house-later-same h = record { people = refl; boxes = λ a. all-later-same (boxes
 
 change-later : (h g : House) (a : ℕ) (bs : List Box) → House-later h g → (a < length (g .people) → All-later (boxes-at h a) bs) → House-later h (change-boxes g a bs)
 change-later h g a bs k q = record {
-    people = length-set-person (g .people) a _ ∙ k .people;
-    boxes = at-changed g a bs (λ b cs. All-later (boxes-at h b) cs) q (k .boxes) }
+  people = length-set-person (g .people) a _ ∙ k .people;
+  boxes = at-changed g a bs (λ b cs. All-later (boxes-at h b) cs) q (k .boxes);
+}
 
 change-box-later : (h g : House) (a : ℕ) (nm : List ℕ) (b : Box) → b .name ≡ nm → has-box (boxes-at h a) nm ≡ true → Later (box-of (boxes-at h a) nm) b →
     House-later h g → House-later h (change-box g a b)
@@ -148,12 +153,12 @@ change-box-later h g a nm b e i l k = change-later h g a _ k (λ o. all-later-se
 pub put-here-later : (n : ℕ) (h : House) → Ready n h → (g : House) (a : ℕ) (ms t : List ℕ) (ns : List (List ℕ)) → House-later h g → House-later h (put-here g a ms t ns)
 put-here-later n h r g a ms t ns k =
     change-later h g a _ k
-        (λ l.
-            let i : has-box (boxes-at h a) in-box ≡ true = has-in-at n h a r (rw (← k .people) l) in
-            let there : every (has-box (boxes-at g a)) (known-boxes (boxes-at g a) ns []) ≡ true = known-boxes-there (boxes-at g a) ns [] (k .boxes a .names in-box ∙ i) refl in
-            all-later-put ms t (boxes-at h a) (known-boxes (boxes-at g a) ns []) (boxes-at g a)
-                (every-mono (has-box (boxes-at g a)) (has-box (boxes-at h a)) (λ m e. sym (k .boxes a .names m) ∙ e) (known-boxes (boxes-at g a) ns []) there)
-                (k .boxes a))
+    (λ l.
+    let i : has-box (boxes-at h a) in-box ≡ true = has-in-at n h a r (rw (← k .people) l) in
+    let there : every (has-box (boxes-at g a)) (known-boxes (boxes-at g a) ns []) ≡ true = known-boxes-there (boxes-at g a) ns [] (k .boxes a .names in-box ∙ i) refl in
+    all-later-put ms t (boxes-at h a) (known-boxes (boxes-at g a) ns []) (boxes-at g a)
+    (every-mono (has-box (boxes-at g a)) (has-box (boxes-at h a)) (λ m e. sym (k .boxes a .names m) ∙ e) (known-boxes (boxes-at g a) ns []) there)
+    (k .boxes a))
 
 pub deliver-later : (n : ℕ) (h : House) → Ready n h → (m c : ℕ) (t : List ℕ) (g : House) (a : ℕ) → House-later h g → House-later h (deliver m c t g a)
 deliver-later n h r m c t g a k =
@@ -180,8 +185,8 @@ joined-later h q a nm i = go (cases-lt a (length (h .people)))
     go : (a < length (h .people)) ⊎ (length (h .people) ≤ a) → Later (box-of (boxes-at h a) nm) (box-of (person-at ((h .people) ++ q ∷ []) a .boxes) nm)
     go (inl l) =
         subst (λ (p : Person). Later (box-of (boxes-at h a) nm) (box-of (p .boxes) nm))
-            (person-at-is (h .people) a ∙ sym (getD-append-left (h .people) (q ∷ []) no-person a l) ∙ sym (person-at-is ((h .people) ++ q ∷ []) a))
-            (later-same (box-of (boxes-at h a) nm))
+        (person-at-is (h .people) a ∙ sym (getD-append-left (h .people) (q ∷ []) no-person a l) ∙ sym (person-at-is ((h .people) ++ q ∷ []) a))
+        (later-same (box-of (boxes-at h a) nm))
     go (inr l) = absurd (false≢true (subst (λ (p : Person). has-box (p .boxes) nm ≡ true) (person-at-is (h .people) a ∙ getD-past (h .people) a no-person l) i))
 
 dropped-later : (nm : List ℕ) (bs : List Box) (nm₁ : List ℕ) → has-box (without-box nm bs) nm₁ ≡ true → Later (box-of bs nm₁) (box-of (without-box nm bs) nm₁)
@@ -201,25 +206,27 @@ rules-later h b rs a nm =
 
 turn-later : (n c : ℕ) (h : House) (a : Command) → Ready n h → good-house h ≡ true → Boxes-later h (turn n c h a .next)
 turn-later n c h a r g = turn-keeps (Boxes-later h) n c h (record {
-    none = λ b nm i j. later-same (box-of (boxes-at h b) nm);
-    joins = λ nm b nm₁ i j. joined-later h _ b nm₁ i;
-    delivers = λ b t. from-all h _ (deliver-later n h r 16 c t h b (house-later-same h));
-    waits = λ d o l ne b nm i j. later-same (box-of (boxes-at h b) nm);
-    makes = λ b nm e. at-changed h b _ (λ b₁ cs. (nm₁ : List ℕ) → has-box (boxes-at h b₁) nm₁ ≡ true → has-box cs nm₁ ≡ true → Later (box-of (boxes-at h b₁) nm₁) (box-of cs nm₁))
-        (λ l nm₁ i j. rw (box-of-append (boxes-at h b) _ nm₁ i) (later-same (box-of (boxes-at h b) nm₁)))
-        (λ b₁ nm₁ i j. later-same (box-of (boxes-at h b₁) nm₁));
-    drops = λ b nm e. at-changed h b _ (λ b₁ cs. (nm₁ : List ℕ) → has-box (boxes-at h b₁) nm₁ ≡ true → has-box cs nm₁ ≡ true → Later (box-of (boxes-at h b₁) nm₁) (box-of cs nm₁))
-        (λ l nm₁ i j. dropped-later nm (boxes-at h b) nm₁ j)
-        (λ b₁ nm₁ i j. later-same (box-of (boxes-at h b₁) nm₁));
-    marks = λ b nm i m v t. from-all h _ (changed b nm t _ (later-marked m v i (the-box h b nm)));
-    moves = λ b nm i o l t t₁ s e. from-all h _
-        (change-box-later h (taken-out h b nm i) b o _ refl (here-has h b o t₁) (later-push o (the-box h b o) (l .marks) (l .bytes))
-            (changed b nm t _ (later-those (λ x. not (eqb (x .number) i)) (the-box h b nm) (good b nm))));
-    clears = λ b nm t. from-all h _ (changed b nm t _ (later-those (λ x. not (has-mark (x .marks) 1)) (the-box h b nm) (good b nm)));
-    rules = λ b rs l e b₁ nm i j. rules-later h b rs b₁ nm }) a
+  none = λ b nm i j. later-same (box-of (boxes-at h b) nm);
+  joins = λ nm b nm₁ i j. joined-later h _ b nm₁ i;
+  delivers = λ b t. from-all h _ (deliver-later n h r 16 c t h b (house-later-same h));
+  waits = λ d o l ne b nm i j. later-same (box-of (boxes-at h b) nm);
+  makes = λ b nm e. at-changed h b _ (λ b₁ cs. (nm₁ : List ℕ) → has-box (boxes-at h b₁) nm₁ ≡ true → has-box cs nm₁ ≡ true → Later (box-of (boxes-at h b₁) nm₁) (box-of cs nm₁))
+      (λ l nm₁ i j. rw (box-of-append (boxes-at h b) _ nm₁ i) (later-same (box-of (boxes-at h b) nm₁)))
+      (λ b₁ nm₁ i j. later-same (box-of (boxes-at h b₁) nm₁));
+  drops = λ b nm e. at-changed h b _ (λ b₁ cs. (nm₁ : List ℕ) → has-box (boxes-at h b₁) nm₁ ≡ true → has-box cs nm₁ ≡ true → Later (box-of (boxes-at h b₁) nm₁) (box-of cs nm₁))
+      (λ l nm₁ i j. dropped-later nm (boxes-at h b) nm₁ j)
+      (λ b₁ nm₁ i j. later-same (box-of (boxes-at h b₁) nm₁));
+  marks = λ b nm i m v t. from-all h _ (changed b nm t _ (later-marked m v i (the-box h b nm)));
+  moves = λ b nm i o l t t₁ s e. from-all h _
+      (change-box-later h (taken-out h b nm i) b o _ refl (here-has h b o t₁) (later-push o (the-box h b o) (l .marks) (l .bytes))
+      (changed b nm t _ (later-those (λ x. not (eqb (x .number) i)) (the-box h b nm) (good b nm))));
+  clears = λ b nm t. from-all h _ (changed b nm t _ (later-those (λ x. not (has-mark (x .marks) 1)) (the-box h b nm) (good b nm)));
+  rules = λ b rs l e b₁ nm i j. rules-later h b rs b₁ nm;
+}) a
   where
     good : (b : ℕ) (nm : List ℕ) → good-box (the-box h b nm) ≡ true
     good b nm = good-box-of (boxes-at h b) nm (good-boxes-at h b g)
+
     changed : (b : ℕ) (nm : List ℕ) → here-box h b nm ≡ true → (ls : List Letter) → Later (the-box h b nm) (with-letters (the-box h b nm) ls) →
         House-later h (change-box h b (with-letters (the-box h b nm) ls))
     changed b nm t ls k = let i = here-has h b nm t in change-box-later h h b nm _ (box-of-name (boxes-at h b) nm i) i k (house-later-same h)
@@ -228,12 +235,12 @@ pub never-again : Never-again
 unfolding Never-again
 never-again n w v r (turned c a l) x b nm lx =
     at-set-house w c (turn n c (house-at w c) a .next) (λ z g. here-box (house-at w z) b nm ≡ true → here-box g b nm ≡ true → Later (the-box (house-at w z) b nm) (the-box g b nm))
-        (λ k i j. turn-later n c (house-at w c) a (sound-of r .ready c l) (sound-of r .good c l) b nm (here-has (house-at w c) b nm i) (here-has (turn n c (house-at w c) a .next) b nm j))
-        (λ z i j. later-same (the-box (house-at w z) b nm)) x
+    (λ k i j. turn-later n c (house-at w c) a (sound-of r .ready c l) (sound-of r .good c l) b nm (here-has (house-at w c) b nm i) (here-has (turn n c (house-at w c) a .next) b nm j))
+    (λ z i j. later-same (the-box (house-at w z) b nm)) x
 never-again n w v r (came c d more know lc ld ne can) x b nm lx =
     let s = sound-of r in
     at-pushed n w c d more know (differ c d ne) (rw (s .houses) lc) (rw (s .houses) ld)
-        (λ z g. here-box (house-at w z) b nm ≡ true → here-box g b nm ≡ true → Later (the-box (house-at w z) b nm) (the-box g b nm))
-        (λ i j. come-later n (house-at w d) (s .ready d ld) c d (take more (not-taken w c d)) (house-at w d) (house-later-same (house-at w d)) .boxes b .boxes nm (here-has (house-at w d) b nm i))
-        (λ i j. later-same (the-box (house-at w c) b nm))
-        (λ z i j. later-same (the-box (house-at w z) b nm)) x
+    (λ z g. here-box (house-at w z) b nm ≡ true → here-box g b nm ≡ true → Later (the-box (house-at w z) b nm) (the-box g b nm))
+    (λ i j. come-later n (house-at w d) (s .ready d ld) c d (take more (not-taken w c d)) (house-at w d) (house-later-same (house-at w d)) .boxes b .boxes nm (here-has (house-at w d) b nm i))
+    (λ i j. later-same (the-box (house-at w c) b nm))
+    (λ z i j. later-same (the-box (house-at w z) b nm)) x

@@ -78,10 +78,14 @@ unfolding put-all
 put-last ms t [] n bs h =
     let i = and-parts (has-box bs n) true h .0 in
     record {
-        box = n; here = has-box-set bs _ n ∙ i;
-        number = rw (put-one ms t n bs i) (omega arith);
-        others = box-of bs n .letters; letter = record { number = box-of bs n .next; marks = ms; bytes = t };
-        last = ap (λ (b : Box). b .letters) (put-one ms t n bs i); bytes = refl }
+      box = n;
+      here = has-box-set bs _ n ∙ i;
+      number = rw (put-one ms t n bs i) (omega arith);
+      others = box-of bs n .letters;
+      letter = record { number = box-of bs n .next; marks = ms; bytes = t };
+      last = ap (λ (b : Box). b .letters) (put-one ms t n bs i);
+      bytes = refl;
+    }
 put-last ms t (m ∷ ns) n bs h =
     let hs = and-parts (has-box bs n) (every (has-box bs) (m ∷ ns)) h in
     let cs : List Box = set-box bs (put-letter ms t (box-of bs n)) in
@@ -89,9 +93,14 @@ put-last ms t (m ∷ ns) n bs h =
     let rest = put-last ms t ns m cs (every-mono (has-box bs) (has-box cs) (λ k e. later .names k ∙ e) (m ∷ ns) (hs .1)) in
     let there : has-box bs (rest .box) ≡ true = sym (has-box-put-all ms t (m ∷ ns) cs (rest .box) ∙ later .names (rest .box)) ∙ rest .here in
     record {
-        box = rest .box; here = rest .here;
-        number = omega (arith, rest .number, later .boxes (rest .box) there .next);
-        others = rest .others; letter = rest .letter; last = rest .last; bytes = rest .bytes }
+      box = rest .box;
+      here = rest .here;
+      number = omega (arith, rest .number, later .boxes (rest .box) there .next);
+      others = rest .others;
+      letter = rest .letter;
+      last = rest .last;
+      bytes = rest .bytes;
+    }
 
 known-some : (bs : List Box) (ns so : List (List ℕ)) → none-of so ≡ false → none-of (known-boxes bs ns so) ≡ false
 unfolding known-boxes
@@ -116,12 +125,15 @@ module _ (n c : ℕ) (t : List ℕ) (lc : c < n) where
       let q : Person = with-boxes (person-at (h .people) a) (put-all ms t names bs) in
       let is : person-at (set-person (h .people) a q) a ≡ q = person-at-same (h .people) a q l in
       record {
-          person = a; box = put .box;
-          here = and-from _ _ (lt-ltb a _ (rw (length-set-person (h .people) a q) l)) (ap (λ (p : Person). has-box (p .boxes) (put .box)) is ∙ put .here);
-          number = subst (λ (p : Person). box-of bs (put .box) .next < box-of (p .boxes) (put .box) .next) (sym is) (put .number);
-          others = put .others; letter = put .letter;
-          last = ap (λ (p : Person). box-of (p .boxes) (put .box) .letters) is ∙ put .last;
-          bytes = put .bytes }
+        person = a;
+        box = put .box;
+        here = and-from _ _ (lt-ltb a _ (rw (length-set-person (h .people) a q) l)) (ap (λ (p : Person). has-box (p .boxes) (put .box)) is ∙ put .here);
+        number = subst (λ (p : Person). box-of bs (put .box) .next < box-of (p .boxes) (put .box) .next) (sym is) (put .number);
+        others = put .others;
+        letter = put .letter;
+        last = ap (λ (p : Person). box-of (p .boxes) (put .box) .letters) is ∙ put .last;
+        bytes = put .bytes;
+      }
 
   somebody-here : (h : House) (a : ℕ) → Ready n h → somebody h a < length (h .people)
   somebody-here h a r = pick-cases (λ b. b < length (h .people)) (ltb a (length (h .people))) a 0 (ltb-true a (length (h .people))) (λ e. r .staffed)
@@ -137,16 +149,23 @@ module _ (n c : ℕ) (t : List ℕ) (lc : c < n) where
       let all = deliver-later n h r m c t (put-here h a ms t ns) b first in
       let there : has-box (boxes-at h (k .person)) (k .box) ≡ true = sym (all .boxes (k .person) .names (k .box)) ∙ here-has (deliver m c t (put-here h a ms t ns) b) (k .person) (k .box) (k .here) in
       inl (record {
-          person = k .person; box = k .box; here = k .here;
-          number = omega (arith, k .number, first .boxes (k .person) .boxes (k .box) there .next);
-          others = k .others; letter = k .letter; last = k .last; bytes = k .bytes })
+        person = k .person;
+        box = k .box;
+        here = k .here;
+        number = omega (arith, k .number, first .boxes (k .person) .boxes (k .box) there .next);
+        others = k .others;
+        letter = k .letter;
+        last = k .last;
+        bytes = k .bytes;
+      })
   after-put m h a ms ns b r (inr (inl k)) =
       inr (inl (record { to = k .to; there = k .there; other = k .other; letter = k .letter; last = k .last; bytes = k .bytes; fewer = omega (arith, k .fewer) }))
   after-put m h a ms ns b r (inr (inr k)) =
       inr (inr (record {
-          person = k .person;
-          rule = subst (λ (rs : List Rule). any (λ r₁. any says-away (r₁ .acts)) rs ≡ true)
-              (at-set-person (h .people) a _ (λ x p. p .rules ≡ person-at (h .people) x .rules) (λ l. refl) (λ x. refl) (k .person)) (k .rule) }))
+        person = k .person;
+        rule = subst (λ (rs : List Rule). any (λ r₁. any says-away (r₁ .acts)) rs ≡ true)
+            (at-set-person (h .people) a _ (λ x p. p .rules ≡ person-at (h .people) x .rules) (λ l. refl) (λ x. refl) (k .person)) (k .rule);
+      }))
 
   -- who names nobody puts it into a box, or says "away"
   kept : (m : ℕ) (h : House) (a : ℕ) → Ready n h → a < length (h .people) → none-of (fate (person-at (h .people) a .rules) t .people) ≡ true →
@@ -171,11 +190,15 @@ module _ (n c : ℕ) (t : List ℕ) (lc : c < n) where
       let d = getD q 0 0 in
       let ld : d < n = to-house q (and-parts (within n q) (every (within n) qs) w .0) in
       pick-cases (Result (suc m) h) (eqb d c) _ _ (λ s. again (getD q 1 0))
-          (λ s. inr (inl (record {
-              to = d; there = ld; other = λ x. absurd (eqb-false d c s x);
-              letter = record { person = getD q 1 0; left = m; bytes = t };
-              last = ap (λ (v : Way). v .waiting) (way-at-same (k .ways) d _ (rw (e, lw) ld)) ∙ ap (λ (vs : List Way). (way-at vs d .waiting) ++ record { person = getD q 1 0; left = m; bytes = t } ∷ []) e;
-              bytes = refl; fewer = omega arith })))
+      (λ s. inr (inl (record {
+        to = d;
+        there = ld;
+        other = λ x. absurd (eqb-false d c s x);
+        letter = record { person = getD q 1 0; left = m; bytes = t };
+        last = ap (λ (v : Way). v .waiting) (way-at-same (k .ways) d _ (rw (e, lw) ld)) ∙ ap (λ (vs : List Way). (way-at vs d .waiting) ++ record { person = getD q 1 0; left = m; bytes = t } ∷ []) e;
+        bytes = refl;
+        fewer = omega arith;
+      })))
 
   delivered-here : (m : ℕ) (h : House) (a : ℕ) → length (h .ways) ≡ n → Ready n h → Result m h (deliver m c t h a)
   unfolding deliver
@@ -185,8 +208,8 @@ module _ (n c : ℕ) (t : List ℕ) (lc : c < n) where
       let rs : List Rule = person-at (h .people) p .rules in
       let k : House = put-here h p (fate rs t .marks) t (fate rs t .boxes) in
       passed-on m h k (fate rs t .people) refl lw (within-fate n rs t (rules-at n h p r (somebody-here h a r)))
-          (kept m h p r (somebody-here h a r))
-          (λ b. after-put m h p (fate rs t .marks) (fate rs t .boxes) b r (delivered-here m k b lw (ready-put-here n h p (fate rs t .marks) t (fate rs t .boxes) r)))
+      (kept m h p r (somebody-here h a r))
+      (λ b. after-put m h p (fate rs t .marks) (fate rs t .boxes) b r (delivered-here m k b lw (ready-put-here n h p (fate rs t .marks) t (fate rs t .boxes) r)))
 
 pub delivered : Delivered
 unfolding Delivered

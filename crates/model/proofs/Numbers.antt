@@ -27,9 +27,11 @@ unfolding rising
 rising-first l [] h = (refl, refl)
 rising-first l (m ∷ ls) h =
     let hs = and-parts (ltb (l .number) (m .number)) (rising (m ∷ ls)) h in
-    let n : l .number < m .number = ltb-true (l .number) (m .number) (hs .0) in
-    (and-from (ltb (l .number) (m .number)) (above (l .number) ls) (hs .0)
-        (above-lower (l .number) (m .number) ls (omega arith) (rising-first m ls (hs .1) .0)), hs .1)
+    let n : l .number < m .number = ltb-true (l .number) (m .number) (hs .0) in (
+      and-from (ltb (l .number) (m .number)) (above (l .number) ls) (hs .0)
+          (above-lower (l .number) (m .number) ls (omega arith) (rising-first m ls (hs .1) .0)),
+      hs .1,
+    )
 
 rising-more : (l : Letter) (ls : List Letter) → above (l .number) ls ≡ true → rising ls ≡ true → rising (l ∷ ls) ≡ true
 unfolding rising
@@ -41,8 +43,8 @@ rising-those q [] h = h
 rising-those q (l ∷ ls) h =
     let hs = rising-first l ls h in
     pick-both (λ ms. rising ms ≡ true) (q l) (l ∷ those q ls) (those q ls)
-        (rising-more l (those q ls) (every-those (λ m. ltb (l .number) (m .number)) q ls (hs .0)) (rising-those q ls (hs .1)))
-        (rising-those q ls (hs .1))
+    (rising-more l (those q ls) (every-those (λ m. ltb (l .number) (m .number)) q ls (hs .0)) (rising-those q ls (hs .1)))
+    (rising-those q ls (hs .1))
 
 rising-push : (ls : List Letter) (m : Letter) → rising ls ≡ true → below (m .number) ls ≡ true → rising (ls ++ m ∷ []) ≡ true
 unfolding rising below
@@ -51,8 +53,8 @@ rising-push (l ∷ ls) m h b =
     let hs = rising-first l ls h in
     let bs = and-parts (ltb (l .number) (m .number)) (every (λ (k : Letter). ltb (k .number) (m .number)) ls) b in
     rising-more l (ls ++ m ∷ [])
-        (every-append (λ k. ltb (l .number) (k .number)) ls (m ∷ []) (hs .0) (and-from (ltb (l .number) (m .number)) true (bs .0) refl))
-        (rising-push ls m (hs .1) (bs .1))
+    (every-append (λ k. ltb (l .number) (k .number)) ls (m ∷ []) (hs .0) (and-from (ltb (l .number) (m .number)) true (bs .0) refl))
+    (rising-push ls m (hs .1) (bs .1))
 
 -- a mark changes no number
 every-marked : (p : ℕ → Bool) (m : ℕ) (v : Bool) (i : ℕ) (ls : List Letter) → every (λ l. p (l .number)) ls ≡ true → every (λ l. p (l .number)) (marked-so m v i ls) ≡ true
@@ -61,8 +63,8 @@ every-marked p m v i [] h = refl
 every-marked p m v i (l ∷ ls) h =
     let hs = and-parts (p (l .number)) (every (λ (k : Letter). p (k .number)) ls) h in
     pick-cases (λ ms. every (λ k. p (k .number)) ms ≡ true) (eqb (l .number) i) _ (l ∷ marked-so m v i ls)
-        (λ e. and-from (p i) (every (λ (k : Letter). p (k .number)) ls) (rw (eqb-true (l .number) i e) at (hs .0)) (hs .1))
-        (λ e. and-from (p (l .number)) _ (hs .0) (every-marked p m v i ls (hs .1)))
+    (λ e. and-from (p i) (every (λ (k : Letter). p (k .number)) ls) (rw (eqb-true (l .number) i e) at (hs .0)) (hs .1))
+    (λ e. and-from (p (l .number)) _ (hs .0) (every-marked p m v i ls (hs .1)))
 
 rising-marked : (m : ℕ) (v : Bool) (i : ℕ) (ls : List Letter) → rising ls ≡ true → rising (marked-so m v i ls) ≡ true
 unfolding marked-so
@@ -70,8 +72,8 @@ rising-marked m v i [] h = h
 rising-marked m v i (l ∷ ls) h =
     let hs = rising-first l ls h in
     pick-cases (λ ms. rising ms ≡ true) (eqb (l .number) i) _ (l ∷ marked-so m v i ls)
-        (λ e. rising-more _ ls (rw (eqb-true (l .number) i e) at (hs .0)) (hs .1))
-        (λ e. rising-more l (marked-so m v i ls) (every-marked (λ k. ltb (l .number) k) m v i ls (hs .0)) (rising-marked m v i ls (hs .1)))
+    (λ e. rising-more _ ls (rw (eqb-true (l .number) i e) at (hs .0)) (hs .1))
+    (λ e. rising-more l (marked-so m v i ls) (every-marked (λ k. ltb (l .number) k) m v i ls (hs .0)) (rising-marked m v i ls (hs .1)))
 
 -- Good boxes.
 pub good-parts : (b : Box) → good-box b ≡ true → (rising (b .letters) ≡ true) × (below (b .next) (b .letters) ≡ true)
@@ -109,10 +111,10 @@ unfolding below
 good-push n b ms bs h =
     let hs = good-parts b h in
     good-from _ (rising-push (b .letters) _ (hs .0) (hs .1))
-        (every-append (λ l. ltb (l .number) (suc (b .next))) (b .letters) _
-            (every-mono (λ l. ltb (l .number) (b .next)) (λ l. ltb (l .number) (suc (b .next)))
-                (λ l e. let n : l .number < b .next = ltb-true (l .number) (b .next) e in lt-ltb (l .number) (suc (b .next)) (omega arith)) (b .letters) (hs .1))
-            (and-from _ true (lt-ltb (b .next) (suc (b .next)) (omega arith)) refl))
+    (every-append (λ l. ltb (l .number) (suc (b .next))) (b .letters) _
+    (every-mono (λ l. ltb (l .number) (b .next)) (λ l. ltb (l .number) (suc (b .next)))
+    (λ l e. let n : l .number < b .next = ltb-true (l .number) (b .next) e in lt-ltb (l .number) (suc (b .next)) (omega arith)) (b .letters) (hs .1))
+    (and-from _ true (lt-ltb (b .next) (suc (b .next)) (omega arith)) refl))
 
 pub good-box-of : (bs : List Box) (n : List ℕ) → every good-box bs ≡ true → good-box (box-of bs n) ≡ true
 unfolding box-of
@@ -127,14 +129,14 @@ every-set-box p [] c h k = refl
 every-set-box p (b ∷ bs) c h k =
     let hs = and-parts (p b) (every p bs) h in
     pick-both (λ cs. every p cs ≡ true) (same (b .name) (c .name)) (c ∷ bs) (b ∷ set-box bs c)
-        (and-from (p c) (every p bs) k (hs .1)) (and-from (p b) (every p (set-box bs c)) (hs .0) (every-set-box p bs c (hs .1) k))
+    (and-from (p c) (every p bs) k (hs .1)) (and-from (p b) (every p (set-box bs c)) (hs .0) (every-set-box p bs c (hs .1) k))
 
 good-put-all : (ms bs : List ℕ) (ns : List (List ℕ)) (bx : List Box) → every good-box bx ≡ true → every good-box (put-all ms bs ns bx) ≡ true
 unfolding put-all
 good-put-all ms bs [] bx h = h
 good-put-all ms bs (n ∷ ns) bx h =
     good-put-all ms bs ns (set-box bx (put-letter ms bs (box-of bx n)))
-        (every-set-box good-box bx (put-letter ms bs (box-of bx n)) h (good-push (box-of bx n .name) (box-of bx n) ms bs (good-box-of bx n h)))
+    (every-set-box good-box bx (put-letter ms bs (box-of bx n)) h (good-push (box-of bx n .name) (box-of bx n) ms bs (good-box-of bx n h)))
 
 -- Good people.
 abbrev good-person : Person → Bool
@@ -170,18 +172,19 @@ good-appended h ps g k = every-append good-person (h .people) ps g k
 
 pub good-turn : (n c : ℕ) (h : House) (a : Command) → good-house h ≡ true → good-house (turn n c h a .next) ≡ true
 good-turn n c h a g = turn-keeps (λ k. good-house k ≡ true) n c h (record {
-    none = g;
-    joins = λ nm. good-appended h _ g (and-from _ true (and-from _ true (good-new in-box) refl) refl);
-    delivers = λ b bs. good-deliver 16 c bs h b g;
-    waits = λ d o l ne. good-waiting h d o g;
-    makes = λ b nm e. good-set-person h b _ g (every-append good-box (person-at (h .people) b .boxes) _ (good-boxes-at h b g) (and-from _ true (good-new nm) refl));
-    drops = λ b nm e. good-set-person h b _ g (every-those good-box (λ x. not (same (x .name) nm)) (person-at (h .people) b .boxes) (good-boxes-at h b g));
-    marks = λ b nm i m v t. good-change-box h b _ g (good-marked m v i (the-box h b nm) (good-the-box h b nm g));
-    moves = λ b nm i o l t t₁ s e. good-change-box (taken-out h b nm i) b _
-        (good-change-box h b _ g (good-those (λ x. not (eqb (x .number) i)) (the-box h b nm) (good-the-box h b nm g)))
-        (good-push o (the-box h b o) (l .marks) (l .bytes) (good-the-box h b o g));
-    clears = λ b nm t. good-change-box h b _ g (good-those (λ x. not (has-mark (x .marks) 1)) (the-box h b nm) (good-the-box h b nm g));
-    rules = λ b rs l e. good-set-person h b _ g (good-boxes-at h b g) }) a
+  none = g;
+  joins = λ nm. good-appended h _ g (and-from _ true (and-from _ true (good-new in-box) refl) refl);
+  delivers = λ b bs. good-deliver 16 c bs h b g;
+  waits = λ d o l ne. good-waiting h d o g;
+  makes = λ b nm e. good-set-person h b _ g (every-append good-box (person-at (h .people) b .boxes) _ (good-boxes-at h b g) (and-from _ true (good-new nm) refl));
+  drops = λ b nm e. good-set-person h b _ g (every-those good-box (λ x. not (same (x .name) nm)) (person-at (h .people) b .boxes) (good-boxes-at h b g));
+  marks = λ b nm i m v t. good-change-box h b _ g (good-marked m v i (the-box h b nm) (good-the-box h b nm g));
+  moves = λ b nm i o l t t₁ s e. good-change-box (taken-out h b nm i) b _
+      (good-change-box h b _ g (good-those (λ x. not (eqb (x .number) i)) (the-box h b nm) (good-the-box h b nm g)))
+      (good-push o (the-box h b o) (l .marks) (l .bytes) (good-the-box h b o g));
+  clears = λ b nm t. good-change-box h b _ g (good-those (λ x. not (has-mark (x .marks) 1)) (the-box h b nm) (good-the-box h b nm g));
+  rules = λ b rs l e. good-set-person h b _ g (good-boxes-at h b g);
+}) a
 
 pub numbers-rise : Numbers-rise
 unfolding Numbers-rise

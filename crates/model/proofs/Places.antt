@@ -176,7 +176,7 @@ every-those p q [] h = refl
 every-those p q (x ∷ xs) h =
     let hs = and-parts (p x) (every p xs) h in
     pick-both (λ ys. every p ys ≡ true) (q x) (x ∷ those q xs) (those q xs)
-        (and-from (p x) (every p (those q xs)) (hs .0) (every-those p q xs (hs .1))) (every-those p q xs (hs .1))
+    (and-from (p x) (every p (those q xs)) (hs .0) (every-those p q xs (hs .1))) (every-those p q xs (hs .1))
 
 -- at a place that is there
 pub every-set : {A : Type 0} (p : A → Bool) (xs : List A) (i : ℕ) (y : A) → every p xs ≡ true → (i < length xs → p y ≡ true) → every p (set xs i y) ≡ true

@@ -82,9 +82,14 @@ pub not-taken-after : (w : Plain) (c d more know : ℕ) → c ≢ d → c < leng
 not-taken-after w c d more know ne lc ld k lw lt s =
     let way : Way = way-at (house-at w c .ways) d in
     let had : ℕ = getD (house-at w d .taken) c 0 in
-    rw (taken-after w c d more know ne ld lt (k .comes), pushed-here w c d more know ne lc, way-knowing (house-at w c) d know lw,
-        drop-drop (had + more - (way .sent + know)) know (way .waiting), drop-drop more (had - way .sent) (way .waiting))
-        (ap (λ (n : ℕ). drop n (way .waiting)) (omega arith))
+    rw (
+      taken-after w c d more know ne ld lt (k .comes),
+      pushed-here w c d more know ne lc,
+      way-knowing (house-at w c) d know lw,
+      drop-drop (had + more - (way .sent + know)) know (way .waiting),
+      drop-drop more (had - way .sent) (way .waiting),
+    )
+    (ap (λ (n : ℕ). drop n (way .waiting)) (omega arith))
 
 pub taken-once : Taken-once
 unfolding Taken-once known-taken
@@ -110,15 +115,15 @@ rest-alike w c d more know ne lc ld lw lt kt k =
     let had : ℕ = getD (house-at w d .taken) c 0 in
     let all : ℕ = length (way .waiting) in
     let came : after-more v c d (length (not-taken v c d)) ≡ after-more w c d (length (not-taken w c d)) =
-        rw (take-length (not-taken v c d), rest, pushed-there w c d more know ne ld, take-length (not-taken w c d))
-            (sym (come-append c d (take more (not-taken w c d)) (drop more (not-taken w c d)) (house-at w d))
-                ∙ ap (λ (os : List Out). come c d os (house-at w d)) (take-append-drop more (not-taken w c d))) in
+    rw (take-length (not-taken v c d), rest, pushed-there w c d more know ne ld, take-length (not-taken w c d))
+    (sym (come-append c d (take more (not-taken w c d)) (drop more (not-taken w c d)) (house-at w d))
+    ∙ ap (λ (os : List Out). come c d os (house-at w d)) (take-append-drop more (not-taken w c d))) in
     let fits : know ≤ all = omega (arith, k .comes, k .known, kt .0, kt .1, length-drop (had - way .sent) (way .waiting)) in
     let here : knowing (house-at v c) d (length (way-at (house-at v c .ways) d .waiting)) ≡ knowing (house-at w c) d all =
-        rw (pushed-here w c d more know ne lc)
-            (ap (λ (v₁ : Way). knowing (knowing (house-at w c) d know) d (length (v₁ .waiting))) (way-knowing (house-at w c) d know lw)
-                ∙ knowing-knowing (house-at w c) d know (length (drop know (way .waiting))) lw
-                ∙ ap (λ (n : ℕ). knowing (house-at w c) d n) (omega (arith, length-drop know (way .waiting)))) in
+    rw (pushed-here w c d more know ne lc)
+    (ap (λ (v₁ : Way). knowing (knowing (house-at w c) d know) d (length (v₁ .waiting))) (way-knowing (house-at w c) d know lw)
+    ∙ knowing-knowing (house-at w c) d know (length (drop know (way .waiting))) lw
+    ∙ ap (λ (n : ℕ). knowing (house-at w c) d n) (omega (arith, length-drop know (way .waiting)))) in
     pushed-is v c d (length (not-taken v c d)) (length (way-at (house-at v c .ways) d .waiting)) ne
     ∙ ap₂ (λ (g h : House). set-house (set-house v d g) c h) came here
     ∙ ap (λ (u : Plain). set-house (set-house u d (after-more w c d (length (not-taken w c d)))) c (knowing (house-at w c) d all)) (pushed-is w c d more know ne)

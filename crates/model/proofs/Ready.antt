@@ -30,9 +30,10 @@ rules-at n h a r l = rw person-at-is (every-getD (λ p. rules-within n (p .rules
 ready-set-person : (n : ℕ) (h : House) (a : ℕ) (q : Person) → Ready n h → (a < length (h .people) → has-in q ≡ true) → (a < length (h .people) → rules-within n (q .rules) ≡ true) →
     Ready n (with-people h (set-person (h .people) a q))
 ready-set-person n h a q r i k = record {
-    staffed = rw length-set-person (r .staffed);
-    at-home = rw set-person-is (every-set has-in (h .people) a q (r .at-home) i);
-    on-to-houses = rw set-person-is (every-set (λ p. rules-within n (p .rules)) (h .people) a q (r .on-to-houses) k) }
+  staffed = rw length-set-person (r .staffed);
+  at-home = rw set-person-is (every-set has-in (h .people) a q (r .at-home) i);
+  on-to-houses = rw set-person-is (every-set (λ p. rules-within n (p .rules)) (h .people) a q (r .on-to-houses) k);
+}
 
 -- boxes may change as long as "in" is among them
 ready-change : (n : ℕ) (h : House) (a : ℕ) (bs : List Box) → Ready n h → (has-box (person-at (h .people) a .boxes) in-box ≡ true → has-box bs in-box ≡ true) →
@@ -64,18 +65,20 @@ within-known n c h (d ∷ t) k = and-parts (ltb d n) (or (not (eqb d c)) (ltb (g
 pub ready-turn : (n c : ℕ) (h : House) (a : Command) → Ready n h → Ready n (turn n c h a .next)
 unfolding same
 ready-turn n c h a r = turn-keeps (Ready n) n c h (record {
-    none = r;
-    joins = λ nm. record {
-        staffed = rw length-append (omega (arith, r .staffed));
-        at-home = every-append has-in (h .people) _ (r .at-home) refl;
-        on-to-houses = every-append (λ p. rules-within n (p .rules)) (h .people) _ (r .on-to-houses) refl };
-    delivers = λ b bs. ready-deliver n 16 c bs h b r;
-    waits = λ d o l ne. ready-people n h _ refl r;
-    makes = λ b nm e. ready-change n h b _ r (λ i. has-box-append (person-at (h .people) b .boxes) _ in-box i);
-    drops = λ b nm e. ready-change n h b _ r (λ i. has-box-without nm (person-at (h .people) b .boxes) in-box e ∙ i);
-    marks = λ b nm i m v t. ready-change-box n h b _ r;
-    moves = λ b nm i o l t t₁ s e. ready-change-box n (taken-out h b nm i) b _ (ready-change-box n h b _ r);
-    clears = λ b nm t. ready-change-box n h b _ r;
-    rules = λ b rs l e. ready-set-person n h b _ r (λ l₁. has-in-at n h b r l₁)
-        (λ l₁. every-mono (λ q. every (λ t. known-target c n h (target t)) (q .acts)) (λ q. every (λ t. within n (target t)) (q .acts))
-            (λ q. every-mono (λ t. known-target c n h (target t)) (λ t. within n (target t)) (λ t. within-known n c h (target t)) (q .acts)) rs e) }) a
+  none = r;
+  joins = λ nm. record {
+    staffed = rw length-append (omega (arith, r .staffed));
+    at-home = every-append has-in (h .people) _ (r .at-home) refl;
+    on-to-houses = every-append (λ p. rules-within n (p .rules)) (h .people) _ (r .on-to-houses) refl;
+  };
+  delivers = λ b bs. ready-deliver n 16 c bs h b r;
+  waits = λ d o l ne. ready-people n h _ refl r;
+  makes = λ b nm e. ready-change n h b _ r (λ i. has-box-append (person-at (h .people) b .boxes) _ in-box i);
+  drops = λ b nm e. ready-change n h b _ r (λ i. has-box-without nm (person-at (h .people) b .boxes) in-box e ∙ i);
+  marks = λ b nm i m v t. ready-change-box n h b _ r;
+  moves = λ b nm i o l t t₁ s e. ready-change-box n (taken-out h b nm i) b _ (ready-change-box n h b _ r);
+  clears = λ b nm t. ready-change-box n h b _ r;
+  rules = λ b rs l e. ready-set-person n h b _ r (λ l₁. has-in-at n h b r l₁)
+      (λ l₁. every-mono (λ q. every (λ t. known-target c n h (target t)) (q .acts)) (λ q. every (λ t. within n (target t)) (q .acts))
+      (λ q. every-mono (λ t. known-target c n h (target t)) (λ t. within n (target t)) (λ t. within-known n c h (target t)) (q .acts)) rs e);
+}) a

@@ -21,8 +21,8 @@ pub push-allowed : (n c : ℕ) (h : House) (d : ℕ) → turn n c h (push d) .re
 unfolding turn
 push-allowed n c h d =
     pick-cases (λ t. t .reply ≡ 0 → (d < n) × (c ≡ d → Never)) (ltb d n && not (eqb d c)) (yes [] h) (no 5 h)
-        (λ e r. let es = and-parts (ltb d n) (not (eqb d c)) e in (ltb-true d n (es .0), λ q. absurd (eqb-false d c (not-true (eqb d c) (es .1)) (sym q))))
-        (λ e r. absurd (omega arith))
+    (λ e r. let es = and-parts (ltb d n) (not (eqb d c)) e in (ltb-true d n (es .0), λ q. absurd (eqb-false d c (not-true (eqb d c) (es .1)) (sym q))))
+    (λ e r. absurd (omega arith))
 
 -- all that waits may be known of once all has come
 pub all-knowable : (w : Plain) (c d : ℕ) → known-taken w c d → can-know w c d (length (not-taken w c d)) (length (way-at (house-at w c .ways) d .waiting)) ≡ true
@@ -31,7 +31,7 @@ all-knowable w c d k =
     let way : Way = way-at (house-at w c .ways) d in
     let had : ℕ = getD (house-at w d .taken) c 0 in
     know-can w c d (length (not-taken w c d)) (length (way .waiting))
-        (record { comes = omega arith; known = omega (arith, k .0, k .1, length-drop (had - way .sent) (way .waiting)) })
+    (record { comes = omega arith; known = omega (arith, k .0, k .1, length-drop (had - way .sent) (way .waiting)) })
 
 module _ (n : ℕ) (w : Plain) (c : ℕ) (l : c < n) (r : Reached n w) where
   -- the same houses under another name
@@ -56,15 +56,16 @@ module _ (n : ℕ) (w : Plain) (c : ℕ) (l : c < n) (r : Reached n w) where
 pub stays-reached : Stays-reached
 unfolding Stays-reached May Mid Turn-may is-push
 stays-reached known n pages w c text ss v l r = (
-    (λ ls up reply m. ⊎-elim
-        (λ p. ⊎-elim
-            (λ q. ⊎-elim (λ t. after-turn n w c l r v (p .0) (t .2)) (λ t. same-houses n w c l r v w (t .2) r) (q .1))
-            (λ q. ⊎-elim (λ t. same-houses n w c l r v w (t .3) r)
-                (λ t. after-push n w c l r pages v (q .0) ls up ss reply (rw (q .1) at (t .0)) (t .1)) (q .2))
-            (p .3))
-        (λ p. ⊎-elim (λ q. same-houses n w c l r v w (q .5) r) (λ q. same-houses n w c l r v w (q .3) r) p)
-        m),
-    (λ m. ⊎-elim
-        (λ p. same-houses n w c l r v w (p .0) r)
-        (λ p. ⊎-elim (λ q. after-turn n w c l r v (q .0) (q .6)) (λ q. after-part n w c l r v (q .0) (q .5) (q .6) (q .3) (q .7) (q .8)) p)
-        m))
+  (λ ls up reply m. ⊎-elim
+      (λ p. ⊎-elim
+      (λ q. ⊎-elim (λ t. after-turn n w c l r v (p .0) (t .2)) (λ t. same-houses n w c l r v w (t .2) r) (q .1))
+      (λ q. ⊎-elim (λ t. same-houses n w c l r v w (t .3) r)
+      (λ t. after-push n w c l r pages v (q .0) ls up ss reply (rw (q .1) at (t .0)) (t .1)) (q .2))
+      (p .3))
+      (λ p. ⊎-elim (λ q. same-houses n w c l r v w (q .5) r) (λ q. same-houses n w c l r v w (q .3) r) p)
+      m),
+  (λ m. ⊎-elim
+      (λ p. same-houses n w c l r v w (p .0) r)
+      (λ p. ⊎-elim (λ q. after-turn n w c l r v (q .0) (q .6)) (λ q. after-part n w c l r v (q .0) (q .5) (q .6) (q .3) (q .7) (q .8)) p)
+      m),
+)

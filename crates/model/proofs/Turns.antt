@@ -36,10 +36,10 @@ pub record Changes (P : House → Type 0) (n c : ℕ) (h : House) : Type 0 where
   pub drops : (a : ℕ) (nm : List ℕ) → same nm in-box ≡ false → P (change-boxes h a (those (λ b. not (same (b .name) nm)) (person-at (h .people) a .boxes)))
   pub marks : (a : ℕ) (nm : List ℕ) (i m : ℕ) (v : Bool) → here-box h a nm ≡ true → P (change-box h a (with-letters (the-box h a nm) (marked-so m v i (the-box h a nm .letters))))
   pub moves : (a : ℕ) (nm : List ℕ) (i : ℕ) (o : List ℕ) (l : Letter) → here-box h a nm ≡ true → here-box h a o ≡ true → same nm o ≡ false →
-    letter-of (the-box h a nm .letters) i ≡ l ∷ [] → P (change-box (taken-out h a nm i) a (with-one-more o (the-box h a o) l))
+      letter-of (the-box h a nm .letters) i ≡ l ∷ [] → P (change-box (taken-out h a nm i) a (with-one-more o (the-box h a o) l))
   pub clears : (a : ℕ) (nm : List ℕ) → here-box h a nm ≡ true → P (change-box h a (with-letters (the-box h a nm) (those (λ l. not (has-mark (l .marks) 1)) (the-box h a nm .letters))))
   pub rules : (a : ℕ) (rs : List Rule) → a < length (h .people) → every (λ r. every (λ t. known-target c n h (target t)) (r .acts)) rs ≡ true →
-    P (with-people h (set-person (h .people) a (record { name = person-at (h .people) a .name; boxes = person-at (h .people) a .boxes; rules = rs })))
+      P (with-people h (set-person (h .people) a (record { name = person-at (h .people) a .name; boxes = person-at (h .people) a .boxes; rules = rs })))
 
 module _ (P : House → Type 0) (n c : ℕ) (h : House) (k : Changes P n c h) where
   N : Turn → Type 0
@@ -51,42 +51,42 @@ module _ (P : House → Type 0) (n c : ℕ) (h : House) (k : Changes P n c h) wh
       pick-both N (any (λ p. same (p .name) nm) (h .people)) _ _ (k .none) (pick-both N (leb 64 (length (h .people))) _ _ (k .none) (k .joins nm))
   turn-keeps (hand-in d a bs) =
       pick-cases N (ltb d n) _ _
-          (λ l. pick-cases N (eqb d c) _ _
-              (λ e. pick-both N (ltb a (length (h .people))) _ _ (k .delivers a bs) (k .none))
-              (λ e. k .waits d _ (ltb-true d n l) (eqb-false d c e)))
-          (λ l. k .none)
+      (λ l. pick-cases N (eqb d c) _ _
+      (λ e. pick-both N (ltb a (length (h .people))) _ _ (k .delivers a bs) (k .none))
+      (λ e. k .waits d _ (ltb-true d n l) (eqb-false d c e)))
+      (λ l. k .none)
   turn-keeps (boxes a) = pick-both N (ltb a (length (h .people))) _ _ (k .none) (k .none)
   turn-keeps (new-box a nm) =
       pick-both N (ltb a (length (h .people))) _ _
-          (pick-cases N (has-box (person-at (h .people) a .boxes) nm) _ _ (λ e. k .none)
-              (λ e. pick-both N (leb 256 (length (person-at (h .people) a .boxes))) _ _ (k .none) (k .makes a nm e)))
-          (k .none)
+      (pick-cases N (has-box (person-at (h .people) a .boxes) nm) _ _ (λ e. k .none)
+      (λ e. pick-both N (leb 256 (length (person-at (h .people) a .boxes))) _ _ (k .none) (k .makes a nm e)))
+      (k .none)
   turn-keeps (drop-box a nm) =
       pick-both N (here-box h a nm) _ _
-          (pick-cases N (or (same nm in-box) (not (none-of (the-box h a nm .letters)))) _ _ (λ e. k .none)
-              (λ e. k .drops a nm (or-false (same nm in-box) (not (none-of (the-box h a nm .letters))) e .0)))
-          (k .none)
+      (pick-cases N (or (same nm in-box) (not (none-of (the-box h a nm .letters)))) _ _ (λ e. k .none)
+      (λ e. k .drops a nm (or-false (same nm in-box) (not (none-of (the-box h a nm .letters))) e .0)))
+      (k .none)
   turn-keeps (list a nm i j) = pick-both N (here-box h a nm) _ _ (k .none) (k .none)
   turn-keeps (get a nm i j m) =
       pick-both N (here-box h a nm) _ _ (pick-both N (none-of (letter-of (the-box h a nm .letters) i)) _ _ (k .none) (k .none)) (k .none)
   turn-keeps (set-mark a nm i m v) =
       pick-cases N (here-box h a nm) _ _
-          (λ b. pick-both N (none-of (letter-of (the-box h a nm .letters) i)) _ _ (k .none) (k .marks a nm i m v b))
-          (λ b. k .none)
+      (λ b. pick-both N (none-of (letter-of (the-box h a nm .letters) i)) _ _ (k .none) (k .marks a nm i m v b))
+      (λ b. k .none)
   turn-keeps (to-box a nm i o) =
       pick-cases N (here-box h a nm && here-box h a o) _ _
-          (λ b. pick-cases N (none-of (letter-of (the-box h a nm .letters) i)) _ _ (λ e. k .none)
-              (λ e. pick-cases N (same nm o) _ _ (λ s. k .none)
-                  (λ s.
-                      let bs = and-parts (here-box h a nm) (here-box h a o) b in
-                      let one = letter-of-one (the-box h a nm .letters) i e in
-                      rw (one .1) (k .moves a nm i o (one .0) (bs .0) (bs .1) s (one .1)))))
-          (λ b. k .none)
+      (λ b. pick-cases N (none-of (letter-of (the-box h a nm .letters) i)) _ _ (λ e. k .none)
+      (λ e. pick-cases N (same nm o) _ _ (λ s. k .none)
+      (λ s.
+      let bs = and-parts (here-box h a nm) (here-box h a o) b in
+      let one = letter-of-one (the-box h a nm .letters) i e in
+      rw (one .1) (k .moves a nm i o (one .0) (bs .0) (bs .1) s (one .1)))))
+      (λ b. k .none)
   turn-keeps (clear a nm) = pick-cases N (here-box h a nm) _ _ (k .clears a nm) (λ b. k .none)
   turn-keeps (rules a rs) =
       pick-cases N (ltb a (length (h .people))) _ _
-          (λ l. pick-cases N (every (λ r. every (λ t. known-target c n h (target t)) (r .acts)) rs) _ _ (k .rules a rs (ltb-true a (length (h .people)) l)) (λ e. k .none))
-          (λ l. k .none)
+      (λ l. pick-cases N (every (λ r. every (λ t. known-target c n h (target t)) (r .acts)) rs) _ _ (k .rules a rs (ltb-true a (length (h .people)) l)) (λ e. k .none))
+      (λ l. k .none)
   turn-keeps (find a nm t) = pick-both N (here-box h a nm) _ _ (k .none) (k .none)
   turn-keeps (push d) = pick-both N (ltb d n && not (eqb d c)) _ _ (k .none) (k .none)
 
@@ -95,8 +95,8 @@ pub others-stay : Others-stay
 unfolding Others-stay turn
 others-stay n c h a b nm i m v ne =
     pick-both same-b (here-box h a nm) _ _
-        (pick-both same-b (none-of (letter-of (the-box h a nm .letters) i)) _ _ refl (person-at-other (h .people) a b _ (λ e. differ a b ne (sym e))))
-        refl
+    (pick-both same-b (none-of (letter-of (the-box h a nm .letters) i)) _ _ refl (person-at-other (h .people) a b _ (λ e. differ a b ne (sym e))))
+    refl
   where
     same-b : Turn → Type 0
     same-b t = person-at (t .next .people) b ≡ person-at (h .people) b

@@ -40,12 +40,14 @@ pub grown-push : (c : ℕ) (us vs : List Way) (d : ℕ) (o : Out) → d ≢ c �
     Grown c us (set-way vs d (record { sent = way-at vs d .sent; waiting = (way-at vs d .waiting) ++ o ∷ [] }))
 grown-push c us vs d o ne g =
     record {
-        length-is = length-set-way vs d _ ∙ g .length-is;
-        own = way-at-other vs d c _ (λ e. ne (sym e)) ∙ g .own;
-        each = λ e. at-place e (cases-eq e d) (cases-lt d (length vs)) }
+      length-is = length-set-way vs d _ ∙ g .length-is;
+      own = way-at-other vs d c _ (λ e. ne (sym e)) ∙ g .own;
+      each = λ e. at-place e (cases-eq e d) (cases-lt d (length vs));
+    }
   where
     new : Way
     new = record { sent = way-at vs d .sent; waiting = (way-at vs d .waiting) ++ o ∷ [] }
+
     at-place : (e : ℕ) → (e ≡ d) ⊎ (e ≡ d → ⊥) → (d < length vs) ⊎ (length vs ≤ d) → Longer (way-at us e) (way-at (set-way vs d new) e)
     at-place e (inl q) (inl l) = rw (q, way-at-same vs d new l) (longer-push (way-at us d) (way-at vs d) o (g .each d))
     at-place e (inl q) (inr l) = rw (set-way-past vs d new l) (g .each e)
@@ -60,7 +62,7 @@ unfolding come
 come-grown c d [] us g q = q
 come-grown c d (o ∷ os) us g q =
     come-grown c d os us _
-        (deliver-keeps (λ k. Grown d us (k .ways)) d (λ k b ms bs ns r. r) (λ k e p ne r. grown-push d us (k .ways) e p ne r) (o .left) (o .bytes) g (o .person) q)
+    (deliver-keeps (λ k. Grown d us (k .ways)) d (λ k b ms bs ns r. r) (λ k e p ne r. grown-push d us (k .ways) e p ne r) (o .left) (o .bytes) g (o .person) q)
 
 -- a turn of house c takes nothing, and its ways grow
 abbrev pub Apart : ℕ → House → House → Type 0
@@ -68,16 +70,17 @@ Apart c h g = Grown c (h .ways) (g .ways) × (g .taken ≡ h .taken)
 
 pub turn-apart : (n c : ℕ) (h : House) (a : Command) → Apart c h (turn n c h a .next)
 turn-apart n c h = turn-keeps (Apart c h) n c h (record {
-    none = stays;
-    joins = λ nm. stays;
-    delivers = λ a bs. (deliver-grown 16 c bs h a, deliver-taken 16 c bs h a);
-    waits = λ d o l ne. (grown-push c (h .ways) (h .ways) d o ne (grown-same c (h .ways)), refl);
-    makes = λ a nm e. stays;
-    drops = λ a nm e. stays;
-    marks = λ a nm i m v b. stays;
-    moves = λ a nm i o l b b₁ s e. stays;
-    clears = λ a nm b. stays;
-    rules = λ a rs l e. stays })
+  none = stays;
+  joins = λ nm. stays;
+  delivers = λ a bs. (deliver-grown 16 c bs h a, deliver-taken 16 c bs h a);
+  waits = λ d o l ne. (grown-push c (h .ways) (h .ways) d o ne (grown-same c (h .ways)), refl);
+  makes = λ a nm e. stays;
+  drops = λ a nm e. stays;
+  marks = λ a nm i m v b. stays;
+  moves = λ a nm i o l b b₁ s e. stays;
+  clears = λ a nm b. stays;
+  rules = λ a rs l e. stays;
+})
   where
     stays : Grown c (h .ways) (h .ways) × (h .taken ≡ h .taken)
     stays = (grown-same c (h .ways), refl)

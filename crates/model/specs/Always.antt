@@ -68,4 +68,4 @@ Pushes-in-parts =
     let v : Plain = pushed w c d more know in
     (not-taken v c d ≡ drop more (not-taken w c d))
     × (pushed v c d (length (not-taken v c d)) (length (way-at (house-at v c .ways) d .waiting))
-        ≡ pushed w c d (length (not-taken w c d)) (length (way-at (house-at w c .ways) d .waiting)))
+    ≡ pushed w c d (length (not-taken w c d)) (length (way-at (house-at w c .ways) d .waiting)))

@@ -1,4 +1,4 @@
--- Numbers in a box rise, whatever is done with the box, and none is used again.
+-- Numbers in a box rise and stay below the next one, whatever is done with the box.
 use mathlib.Core.Path.{_≡_, refl}
 use mathlib.Core.Bool.{Bool, true, not}
 use mathlib.Core.List.{List, [], _∷_, _++_}

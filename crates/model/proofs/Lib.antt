@@ -1,1 +1,16 @@
+pub mod Places
+pub mod Boxes
 pub mod Known
+pub mod Device
+pub mod Fates
+pub mod Delivery
+pub mod Turns
+pub mod Numbers
+pub mod Ways
+pub mod Ready
+pub mod Pushing
+pub mod Always
+pub mod Stays
+pub mod Later
+pub mod NotLost
+pub mod Example

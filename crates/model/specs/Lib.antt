@@ -4,3 +4,6 @@ pub mod Device
 pub mod Run
 pub mod Promise
 pub mod Known
+pub mod Always
+pub mod Example
+pub mod Delivered

@@ -1,0 +1,33 @@
+// Days of a house, made from a number: commands, well-spelled and not, with power lost at any act. They are played on the real step and
+// beside a plain house, and the two must agree. Nothing here is known to the house itself.
+mod command;
+mod device;
+mod every_act;
+mod machine;
+mod make;
+mod plain;
+mod play;
+mod random;
+
+pub use command::Command;
+pub use command::Kind;
+pub use command::KindDisplay;
+pub use device::Device;
+pub use every_act::play_every_act;
+pub use machine::Acts;
+pub use machine::Fault;
+pub use machine::FaultDisplay;
+pub use machine::Identity;
+pub use machine::Machine;
+pub use make::Day;
+pub use make::Item;
+pub use make::ItemDisplay;
+pub use make::day;
+pub use plain::PlainHouse;
+pub use play::Difference;
+pub use play::DifferenceDisplay;
+pub use play::Outcome;
+pub use play::Tally;
+pub use play::TallyDisplay;
+pub use play::play;
+pub use random::Random;

@@ -22,7 +22,7 @@ pub use machine::Machine;
 pub use make::Day;
 pub use make::Item;
 pub use make::ItemDisplay;
-pub use make::day;
+pub use make::make_day;
 pub use plain::PlainHouse;
 pub use play::Difference;
 pub use play::DifferenceDisplay;

@@ -371,7 +371,7 @@ impl Maker {
 }
 
 // The day of a number, with so many commands, on so many pages or on as many as the number says.
-pub fn day(heap: Global, number: u64, length: u64, pages: Option<u64>) -> Result<Day, AllocError> {
+pub fn make_day(heap: Global, number: u64, length: u64, pages: Option<u64>) -> Result<Day, AllocError> {
     let mut maker = Maker::new(heap, number, length);
     let identity = maker.identity(pages);
     let mut items = Vec::new(heap);

@@ -9,7 +9,7 @@ use days::ItemDisplay;
 use days::Outcome;
 use days::Tally;
 use days::TallyDisplay;
-use days::day;
+use days::make_day;
 use days::play;
 use days::play_every_act;
 use options::Mode;
@@ -64,7 +64,7 @@ fn tell_difference(rt: &LibcRuntime, options: &Options, number: u64, day: &Day, 
 // Plays one day, and adds what happened to the sum.
 fn one_day(rt: &LibcRuntime, options: &Options, number: u64, sum: &mut Tally) -> Result<(), AnyError> {
     let heap = rt.alloc();
-    let day = day(heap, number, options.length, options.pages)?;
+    let day = make_day(heap, number, options.length, options.pages)?;
     let outcome = match options.mode {
         Mode::Days => play(heap, &day)?,
         Mode::EveryAct => play_every_act(heap, &day)?,

@@ -1,7 +1,6 @@
 // Pages in memory, on which a write waits until a flush, and of which a stop leaves what it is told to leave.
 ghost use mathlib.Core.Path.{_≡_};
-ghost use Prim.Native.Nat.{_*_, _≤_};
-ghost use lib.ListN.{length};
+ghost use Prim.Native.Nat.{_/_};
 ghost use Rattle.std.specs.Of.Vec.{vec-len};
 use std::alloc::AllocError;
 use std::alloc::Global;
@@ -38,12 +37,11 @@ pub struct Device {
     waiting: Vec<Waiting>,
 }
 
-// Puts bytes to the beginning of a page; a page that isn't there stays away.
+// Puts bytes to the beginning of a page; where there is no such page or the bytes are longer than one, nothing changes.
 fn place(pages: &mut [u8], page: usize, bytes: &[u8]) {
-    let start = page.saturating_mul(PAGE_LEN);
-    let end = start.saturating_add(bytes.len());
-    if end <= pages.len() && start <= end {
-        pages[start..end].copy_from_slice(bytes);
+    if page < pages.len() / PAGE_LEN && bytes.len() <= PAGE_LEN {
+        let start = page * PAGE_LEN;
+        pages[start..start + bytes.len()].copy_from_slice(bytes);
     }
 }
 
@@ -54,7 +52,9 @@ impl Device {
         Ok(Device { pages, waiting: Vec::new(heap) })
     }
 
-    pub fn pages(&self) -> usize {
+    pub fn pages(&self) -> usize
+        ensures { λ r. ⌜ r ≡ vec-len (now (self .entry) .pages) / 512 ⌝ }
+    {
         self.pages.len() / PAGE_LEN
     }
 

@@ -1,22 +1,19 @@
-// Plays a day's commands one after another, and before each of them tries what a stop at every one of its acts would leave, for every
-// choice of what comes of the waiting writes.
+// A stop at every act: before a command is carried out, it is tried what a stop at each of its acts would leave, for every choice of what
+// comes of the waiting writes.
 use super::device::Device;
 use super::device::Leaves;
 use super::machine::MOST_ACTS;
-use super::make::Day;
+use super::machine::Ran;
 use super::make::Item;
 use super::make::Saying;
 use super::plain::End;
 use super::plain::EndPartialEq;
-use super::plain::PlainHouse;
-use super::play::Difference;
-use super::play::Outcome;
+use super::play::Allowed;
 use super::play::Pair;
 use super::play::Trouble;
 use super::play::TroubleFromAlloc;
 use super::play::TroubleFromFault;
 use super::play::answer;
-use super::play::begins_with;
 use super::play::powered;
 use super::random::Random;
 use std::alloc::AllocError;
@@ -60,13 +57,6 @@ fn way(heap: Global, number: u64, waiting: usize) -> Result<Vec<Leaves>, AllocEr
     Ok(all)
 }
 
-// What the house may be after a stop.
-#[derive(Drop)]
-struct Allowed {
-    before: Option<PlainHouse>,
-    after: PlainHouse,
-}
-
 // The pages as a stop leaves them in one of the ways.
 fn stopped(heap: Global, device: &Device, number: u64) -> Result<Device, AllocError> {
     let mut pages = device.copy(heap)?;
@@ -76,21 +66,10 @@ fn stopped(heap: Global, device: &Device, number: u64) -> Result<Device, AllocEr
 }
 
 impl Pair {
-    // Stopped pages come up as one of the houses that are allowed.
     fn is_allowed(&mut self, pages: &Device, allowed: &mut Allowed) -> Result<(), Trouble> {
         self.tally.stops = self.tally.stops.saturating_add(1);
-        if let Some(before) = &mut allowed.before {
-            if self.look(pages, before)? {
-                return Ok(());
-            }
-        }
-        if self.look(pages, &mut allowed.after)? {
-            return Ok(());
-        }
-        match allowed.before {
-            Some(_) => Err(Trouble::Differs(Difference::Neither)),
-            None => Err(Trouble::Differs(Difference::Lost)),
-        }
+        self.comes_up(pages, allowed)?;
+        Ok(())
     }
 
     // A power-up that is cut off after so many acts changes nothing, whatever is left of what it wrote. Says whether it came to its end.
@@ -121,27 +100,26 @@ impl Pair {
         Ok(())
     }
 
-    // A command that is cut off after so many acts, with every way of what is left. Says whether it came to its end.
+    // What waits when power is lost is left in every way.
+    fn every_way(&mut self, trial: &Device, allowed: &mut Allowed) -> Result<(), Trouble> {
+        for number in 0..ways(trial.waiting()) {
+            let left = stopped(self.heap, trial, number)?;
+            self.is_allowed(&left, allowed)?;
+            self.every_power(&left, allowed)?;
+        }
+        Ok(())
+    }
+
+    // A command that is cut off after so many acts. Says whether it came to its end.
     fn cut(&mut self, saying: &Saying, acts: u64) -> Result<bool, Trouble> {
         let mut after = self.plain.copy(self.heap)?;
         let expected = answer(self.heap, &mut after, saying)?;
         let mut trial = self.device.copy(self.heap)?;
         self.spare.take_memory(&self.machine);
-        let ran = self.spare.say(saying.text.as_slice(), &mut trial, acts)?;
-        let ended = ran.turn.end != End::Cut;
-        let mut allowed = if ended {
-            Allowed { before: None, after: self.judged(expected, after, ran.turn)? }
-        } else {
-            if !begins_with(&ran.turn.rows, &expected.rows) {
-                return Err(Trouble::Differs(Difference::Showed { expected: expected.rows, got: ran.turn.rows }));
-            }
-            Allowed { before: Some(self.plain.copy(self.heap)?), after }
-        };
-        for number in 0..ways(trial.waiting()) {
-            let left = stopped(self.heap, &trial, number)?;
-            self.is_allowed(&left, &mut allowed)?;
-            self.every_power(&left, &mut allowed)?;
-        }
+        let Ran { turn, .. } = self.spare.say(saying.text.as_slice(), &mut trial, acts)?;
+        let ended = turn.end != End::Cut;
+        let mut allowed = self.allowed(expected, after, turn)?;
+        self.every_way(&trial, &mut allowed)?;
         Ok(ended)
     }
 
@@ -153,35 +131,17 @@ impl Pair {
         }
         self.whole(saying)
     }
-}
 
-fn play_item(pair: &mut Pair, item: &Item) -> Result<(), Trouble> {
-    match item {
-        Item::Whole(saying) => pair.every_cut(saying),
-        Item::Stops(saying, _) => pair.every_cut(saying),
-        Item::Power | Item::PowerStops(_) => Ok(()),
-    }
-}
-
-// Plays a day's commands with a stop at every act of each. Power comes once, at the beginning.
-pub fn play_every_act(heap: Global, day: &Day) -> Result<Outcome, AllocError> {
-    let mut pair = Pair::new(heap, day.identity)?;
-    let mut result = pair.power();
-    let mut place = 0;
-    for item in day.items.as_slice() {
-        match result {
-            Ok(()) => {}
-            Err(_) => break,
+    // An item of a day that is played with a stop at every act: each command, and power where the day has it, after a stop at rest.
+    pub fn item_every_act(&mut self, item: &Item) -> Result<(), Trouble> {
+        match item {
+            Item::Power => {
+                self.device.stop(&[]);
+                self.power()
+            }
+            Item::PowerStops(_) => Ok(()),
+            Item::Whole(saying) => self.every_cut(saying),
+            Item::Stops(saying, _) => self.every_cut(saying),
         }
-        result = play_item(&mut pair, item);
-        place += 1;
-    }
-    match result {
-        Ok(()) => {
-            let Pair { tally, .. } = pair;
-            Ok(Outcome::Agrees(tally))
-        }
-        Err(Trouble::NoMemory) => Err(AllocError),
-        Err(Trouble::Differs(difference)) => Ok(Outcome::Differs { item: place, difference }),
     }
 }

@@ -1,7 +1,6 @@
 // Plays a day on the real house and beside it on a plain one, and finds where they differ.
 use super::command::Command;
 use super::device::Device;
-use super::device::Leaves;
 use super::machine::Fault;
 use super::machine::FaultDisplay;
 use super::machine::Identity;
@@ -157,6 +156,19 @@ pub impl fmt::Display for Tally as TallyDisplay {
     }
 }
 
+// What the house may be after a stop.
+#[derive(Drop)]
+pub struct Allowed {
+    pub before: Option<PlainHouse>,
+    pub after: PlainHouse,
+}
+
+#[derive(Clone, Copy)]
+pub enum Found {
+    Before,
+    After,
+}
+
 // The real house and the plain one, side by side. `spare` is a second memory, in which it is looked up what a stop has left.
 #[derive(Drop)]
 pub struct Pair {
@@ -270,67 +282,71 @@ impl Pair {
         is_as(self.heap, &mut self.spare, &mut pages, plain)
     }
 
-    // After a stop at rest, nothing is lost.
-    fn nothing_lost(&mut self) -> Result<(), Trouble> {
-        let pages = self.device.copy(self.heap)?;
-        let mut plain = self.plain.copy(self.heap)?;
-        if self.look(&pages, &mut plain)? {
-            return Ok(());
+    // What the house may be once power was lost, where a command has shown this and ended so: as before or as after if it was cut off, and
+    // otherwise as the command has left it.
+    pub fn allowed(&self, expected: Turn, after: PlainHouse, got: Turn) -> Result<Allowed, Trouble> {
+        if got.end == End::Cut {
+            if !begins_with(&got.rows, &expected.rows) {
+                return differs(Difference::Showed { expected: expected.rows, got: got.rows });
+            }
+            let before = self.plain.copy(self.heap)?;
+            return Ok(Allowed { before: Some(before), after });
         }
-        differs(Difference::Lost)
+        let after = self.judged(expected, after, got)?;
+        Ok(Allowed { before: None, after })
     }
 
-    // After a stop in the middle of a command, the house is as before it or as after it.
-    fn one_of_both(&mut self, after: PlainHouse) -> Result<(), Trouble> {
-        let pages = self.device.copy(self.heap)?;
-        let mut before = self.plain.copy(self.heap)?;
-        if self.look(&pages, &mut before)? {
-            return Ok(());
+    // Stopped pages come up as one of the houses that are allowed: says which.
+    pub fn comes_up(&mut self, pages: &Device, allowed: &mut Allowed) -> Result<Found, Trouble> {
+        if let Some(before) = &mut allowed.before {
+            if self.look(pages, before)? {
+                return Ok(Found::Before);
+            }
         }
-        let mut after = after;
-        if !self.look(&pages, &mut after)? {
-            return differs(Difference::Neither);
+        if self.look(pages, &mut allowed.after)? {
+            return Ok(Found::After);
         }
-        self.plain = after;
-        Ok(())
+        match allowed.before {
+            Some(_) => differs(Difference::Neither),
+            None => differs(Difference::Lost),
+        }
     }
 
-    fn stop(&mut self, leaves: &[Leaves]) {
-        self.tally.stops = self.tally.stops.saturating_add(1);
-        self.device.stop(leaves);
-    }
-
+    // A power-up that is cut off changes nothing.
     fn power_stops(&mut self, stop: &Stop) -> Result<(), Trouble> {
         let ran = self.machine.power(self.identity, &mut self.device, stop.acts)?;
         powered(&ran)?;
         self.tally.cut_powers = self.tally.cut_powers.saturating_add(1);
         self.device.stop(stop.leaves.as_slice());
-        self.nothing_lost()
+        let pages = self.device.copy(self.heap)?;
+        let after = self.plain.copy(self.heap)?;
+        self.comes_up(&pages, &mut Allowed { before: None, after })?;
+        Ok(())
     }
 
     pub fn whole(&mut self, saying: &Saying) -> Result<(), Trouble> {
         let mut after = self.plain.copy(self.heap)?;
         let expected = answer(self.heap, &mut after, saying)?;
-        let ran = self.machine.say_whole(saying.text.as_slice(), &mut self.device)?;
-        self.tally.count(ran.turn.end);
-        self.plain = self.judged(expected, after, ran.turn)?;
+        let Ran { turn, .. } = self.machine.say_whole(saying.text.as_slice(), &mut self.device)?;
+        self.tally.count(turn.end);
+        self.plain = self.judged(expected, after, turn)?;
         Ok(())
     }
 
     fn stops(&mut self, saying: &Saying, stop: &Stop) -> Result<(), Trouble> {
         let mut after = self.plain.copy(self.heap)?;
         let expected = answer(self.heap, &mut after, saying)?;
-        let ran = self.machine.say(saying.text.as_slice(), &mut self.device, stop.acts)?;
-        self.tally.count(ran.turn.end);
-        self.stop(stop.leaves.as_slice());
-        if ran.turn.end == End::Cut {
-            if !begins_with(&ran.turn.rows, &expected.rows) {
-                return differs(Difference::Showed { expected: expected.rows, got: ran.turn.rows });
-            }
-            return self.one_of_both(after);
+        let Ran { turn, .. } = self.machine.say(saying.text.as_slice(), &mut self.device, stop.acts)?;
+        self.tally.count(turn.end);
+        self.tally.stops = self.tally.stops.saturating_add(1);
+        self.device.stop(stop.leaves.as_slice());
+        let mut allowed = self.allowed(expected, after, turn)?;
+        let pages = self.device.copy(self.heap)?;
+        match self.comes_up(&pages, &mut allowed)? {
+            Found::Before => {}
+            Found::After => self.plain = allowed.after,
         }
-        self.plain = self.judged(expected, after, ran.turn)?;
-        self.nothing_lost()
+        Ok(())
     }
 
     fn item(&mut self, item: &Item) -> Result<(), Trouble> {
@@ -350,11 +366,21 @@ pub enum Outcome {
     Differs { item: usize, difference: Difference },
 }
 
-// Plays a day.
-pub fn play(heap: Global, day: &Day) -> Result<Outcome, AllocError> {
+// How a day is played: as it was made, or with a stop at every act of its commands in place of those that it was made with.
+#[derive(Clone, Copy, PartialEq, Eq)]
+pub enum Manner {
+    AsMade,
+    EveryAct,
+}
+
+pub fn play_day(heap: Global, day: &Day, manner: Manner) -> Result<Outcome, AllocError> {
     let mut pair = Pair::new(heap, day.identity)?;
     for (place, item) in day.items.as_slice().iter().enumerate() {
-        match pair.item(item) {
+        let result = match manner {
+            Manner::AsMade => pair.item(item),
+            Manner::EveryAct => pair.item_every_act(item),
+        };
+        match result {
             Ok(()) => {}
             Err(Trouble::NoMemory) => return Err(AllocError),
             Err(Trouble::Differs(difference)) => return Ok(Outcome::Differs { item: place, difference }),

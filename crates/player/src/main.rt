@@ -10,9 +10,7 @@ use days::Outcome;
 use days::Tally;
 use days::TallyDisplay;
 use days::make_day;
-use days::play;
-use days::play_every_act;
-use options::Mode;
+use days::play_day;
 use options::Options;
 use options::Wish;
 use std::env;
@@ -55,7 +53,7 @@ fn tell_difference(rt: &LibcRuntime, options: &Options, number: u64, day: &Day, 
     println!(rt, "day {number} differs at item {item}: {difference}")?;
     println!(rt, "the house is {house} of {houses} and has {pages} pages; the day so far:")?;
     tell_day(rt, day, item)?;
-    let mode = options.mode.word();
+    let mode = options.mode();
     let length = options.length;
     println!(rt, "play it again by: player {mode} {number} 1 {length} {pages}")?;
     Err("a day differs".into())
@@ -65,11 +63,7 @@ fn tell_difference(rt: &LibcRuntime, options: &Options, number: u64, day: &Day, 
 fn one_day(rt: &LibcRuntime, options: &Options, number: u64, sum: &mut Tally) -> Result<(), AnyError> {
     let heap = rt.alloc();
     let day = make_day(heap, number, options.length, options.pages)?;
-    let outcome = match options.mode {
-        Mode::Days => play(heap, &day)?,
-        Mode::EveryAct => play_every_act(heap, &day)?,
-    };
-    match outcome {
+    match play_day(heap, &day, options.manner)? {
         Outcome::Agrees(tally) => {
             let pages = day.identity.pages;
             println!(rt, "day {number}, {pages} pages: {tally}")?;

@@ -1,31 +1,27 @@
 // What is asked for on the command line.
+use days::Manner;
 use std::env::Args;
 
 const FIRST_PAGES: u64 = 256;
 const MOST_PAGES: u64 = 1_048_576;
 
-#[derive(Clone, Copy, PartialEq, Eq)]
-pub enum Mode {
-    Days,
-    EveryAct,
-}
-
-impl Mode {
-    pub fn word(self) -> &'static str {
-        match self {
-            Mode::Days => "days",
-            Mode::EveryAct => "every-act",
-        }
-    }
-}
-
 #[derive(Clone, Copy)]
 pub struct Options {
-    pub mode: Mode,
+    pub manner: Manner,
     pub first: u64,
     pub days: u64,
     pub length: u64,
     pub pages: Option<u64>,
+}
+
+impl Options {
+    // The word that asks for the manner of playing.
+    pub fn mode(&self) -> &'static str {
+        match self.manner {
+            Manner::AsMade => "days",
+            Manner::EveryAct => "every-act",
+        }
+    }
 }
 
 #[derive(Drop)]
@@ -65,7 +61,7 @@ fn pages(word: Option<String>) -> Result<Option<u64>, &'static str> {
 }
 
 // The words after the mode.
-fn played(mode: Mode, args: Args) -> Wish {
+fn played(manner: Manner, args: Args) -> Wish {
     let mut words = args;
     let first = number(words.next());
     let days = number(words.next());
@@ -75,7 +71,7 @@ fn played(mode: Mode, args: Args) -> Wish {
         return Wish::Bad(MANY_WORDS);
     }
     match (first, days, length, asked) {
-        (Some(first), Some(days), Some(length), Ok(pages)) => Wish::Play(Options { mode, first, days, length, pages }),
+        (Some(first), Some(days), Some(length), Ok(pages)) => Wish::Play(Options { manner, first, days, length, pages }),
         (_, _, _, Err(message)) => Wish::Bad(message),
         _ => Wish::Bad(FEW_WORDS),
     }
@@ -90,8 +86,8 @@ pub fn read(args: Args) -> Wish {
     };
     match word.as_str() {
         "--help" | "-h" => Wish::Help,
-        "days" => played(Mode::Days, words),
-        "every-act" => played(Mode::EveryAct, words),
+        "days" => played(Manner::AsMade, words),
+        "every-act" => played(Manner::EveryAct, words),
         "bench" => Wish::Bench,
         _ => Wish::Bad(NO_MODE),
     }

@@ -1,6 +1,7 @@
 // Days of a house, made from a number: commands, well-spelled and not, with power lost at any act. They are played on the real step and
 // beside a plain house, and the two must agree. Nothing here is known to the house itself.
 mod command;
+mod cost;
 mod device;
 mod every_act;
 mod machine;
@@ -9,20 +10,18 @@ mod plain;
 mod play;
 mod random;
 
-pub use command::Command;
 pub use command::Kind;
 pub use command::KindDisplay;
-pub use device::Device;
+pub use cost::Cost;
+pub use cost::Measured;
 pub use machine::Acts;
 pub use machine::Fault;
 pub use machine::FaultDisplay;
 pub use machine::Identity;
-pub use machine::Machine;
 pub use make::Day;
 pub use make::Item;
 pub use make::ItemDisplay;
 pub use make::make_day;
-pub use plain::PlainHouse;
 pub use play::Difference;
 pub use play::DifferenceDisplay;
 pub use play::Manner;
@@ -30,4 +29,3 @@ pub use play::Outcome;
 pub use play::Tally;
 pub use play::TallyDisplay;
 pub use play::play_day;
-pub use random::Random;

@@ -34,13 +34,13 @@ pub enum Fault {
     Endless,
 }
 
-impl From<AllocError> for Fault as FaultFromAlloc {
+pub impl From<AllocError> for Fault as FaultFromAlloc {
     fn from(_e: AllocError) -> Fault {
         Fault::NoMemory
     }
 }
 
-impl<T: Drop> From<Refused<T>> for Fault as FaultFromRefused {
+pub impl<T: Drop> From<Refused<T>> for Fault as FaultFromRefused {
     fn from(_e: Refused<T>) -> Fault {
         Fault::NoMemory
     }
@@ -89,8 +89,11 @@ impl Acts {
         }
     }
 
-    pub fn all(&self) -> u64 {
-        self.reads.saturating_add(self.writes).saturating_add(self.flushes).saturating_add(self.others)
+    pub fn add(&mut self, other: Acts) {
+        self.reads = self.reads.saturating_add(other.reads);
+        self.writes = self.writes.saturating_add(other.writes);
+        self.flushes = self.flushes.saturating_add(other.flushes);
+        self.others = self.others.saturating_add(other.others);
     }
 }
 

@@ -1,5 +1,6 @@
 // Plays days of a house, made from numbers, with power lost at any act, and says what happened in each. Where the house is not as the
 // plain house, the day is printed, and the program ends with status 1.
+mod bench;
 mod options;
 
 use days::Day;
@@ -97,6 +98,6 @@ fn main(rt: LibcRuntime) -> Result<(), AnyError> {
             Err("nothing was done".into())
         }
         Wish::Play(options) => play_days(&rt, &options),
-        Wish::Bench => Ok(()),
+        Wish::Bench => bench::print(&rt),
     }
 }

@@ -9,6 +9,7 @@ mod make;
 mod plain;
 mod play;
 mod random;
+mod waiting;
 
 pub use command::Kind;
 pub use command::KindDisplay;

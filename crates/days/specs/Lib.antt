@@ -1,3 +1,4 @@
 pub mod Chance
 pub mod Flat
 pub mod Held
+pub mod Played

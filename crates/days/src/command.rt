@@ -24,7 +24,7 @@ pub enum Kind {
 pub const KNOWN: &[Kind] = &[];
 
 impl Kind {
-    pub fn is_known(self) -> bool {
+    pub(super) fn is_known(self) -> bool {
         KNOWN.contains(&self)
     }
 

@@ -1,4 +1,10 @@
 // What commands and power-ups cost: the acts that a house asks for, on pages in memory.
+ghost use mathlib.Core.Path.{_≡_};
+ghost use mathlib.Core.List.{[]};
+ghost use Rattle.std.specs.Vec.{made};
+ghost use Rattle.model.specs.Device.{blank};
+ghost use Rattle.days.specs.Held.{device-of};
+ghost use Rattle.days.specs.Played.{more-by, series-len};
 use super::command::Command;
 use super::command::Kind;
 use super::device::Device;
@@ -33,11 +39,15 @@ pub struct Cost {
 }
 
 impl Cost {
-    fn none() -> Cost {
+    fn none() -> Cost
+        ensures { λ r. ⌜ r .commands ≡ 0 ⌝ }
+    {
         Cost { commands: 0, done: 0, acts: Acts::none() }
     }
 
-    fn count(&mut self, end: End, acts: Acts) {
+    fn count(&mut self, end: End, acts: Acts)
+        ensures { λ _. ⌜ now (self .exit) .commands ≡ more-by (now (self .entry) .commands) 1 ⌝ }
+    {
         self.commands = self.commands.saturating_add(1);
         if let End::Done = end {
             self.done = self.done.saturating_add(1);
@@ -48,7 +58,9 @@ impl Cost {
 
 impl Measured {
     // The only house, on so many empty pages.
-    pub fn new(heap: Global, pages: u64) -> Result<Measured, Fault> {
+    pub fn new(heap: Global, pages: u64) -> Result<Measured, Fault>
+        ensures { λ r. ⌜ made r (λ m. (m .identity ≡ record { house = 0; houses = 1; pages = pages }) × (device-of (m .device) ≡ record { pages = blank pages; queue = [] })) ⌝ }
+    {
         let Ok(size) = usize::try_from(pages) else {
             return Err(Fault::NoMemory);
         };
@@ -57,7 +69,9 @@ impl Measured {
         Ok(Measured { heap, identity: Identity { house: 0, houses: 1, pages }, device, machine })
     }
 
-    pub fn power(&mut self) -> Result<Cost, Fault> {
+    pub fn power(&mut self) -> Result<Cost, Fault>
+        ensures { λ r. ⌜ made r (λ c. c .commands ≡ 1) ⌝ }
+    {
         let mut cost = Cost::none();
         let ran = self.machine.power_whole(self.identity, &mut self.device)?;
         cost.count(ran.turn.end, ran.acts);
@@ -79,7 +93,9 @@ impl Measured {
         }
     }
 
-    fn say(&mut self, command: &Command, cost: &mut Cost) -> Result<(), Fault> {
+    fn say(&mut self, command: &Command, cost: &mut Cost) -> Result<(), Fault>
+        ensures { λ r. ⌜ made r (λ _. now (cost .exit) .commands ≡ more-by (now (cost .entry) .commands) 1) ⌝ }
+    {
         let text = command.spelled(self.heap)?;
         let ran = self.machine.say_whole(text.as_slice(), &mut self.device)?;
         cost.count(ran.turn.end, ran.acts);
@@ -87,7 +103,9 @@ impl Measured {
     }
 
     // The commands of a kind, one after another.
-    pub fn series(&mut self, kind: Kind) -> Result<Cost, Fault> {
+    pub fn series(&mut self, kind: Kind) -> Result<Cost, Fault>
+        ensures { λ r. ⌜ made r (λ c. c .commands ≡ series-len kind) ⌝ }
+    {
         let count = match kind {
             Kind::Join => PEOPLE,
             _ => PEOPLE * BOXES,

@@ -1,5 +1,8 @@
 // A stop at every act: before a command is carried out, it is tried what a stop at each of its acts would leave, for every choice of what
 // comes of the waiting writes.
+ghost use mathlib.Core.Path.{_≡_};
+ghost use Rattle.std.specs.Vec.{made};
+ghost use Rattle.days.specs.Played.{more-by, counted};
 use super::device::Device;
 use super::device::Leaves;
 use super::machine::MOST_ACTS;
@@ -66,14 +69,18 @@ fn stopped(heap: Global, device: &Device, number: u64) -> Result<Device, AllocEr
 }
 
 impl Pair {
-    fn is_allowed(&mut self, pages: &Device, allowed: &mut Allowed) -> Result<(), Trouble> {
+    fn is_allowed(&mut self, pages: &Device, allowed: &mut Allowed) -> Result<(), Trouble>
+        ensures { λ _. ⌜ now (self .exit) .tally .commands ≡ now (self .entry) .tally .commands ⌝ }
+    {
         self.tally.stops = self.tally.stops.saturating_add(1);
         self.comes_up(pages, allowed)?;
         Ok(())
     }
 
     // A power-up that is cut off after so many acts changes nothing, whatever is left of what it wrote. Says whether it came to its end.
-    fn power_cut(&mut self, pages: &Device, acts: u64, allowed: &mut Allowed) -> Result<bool, Trouble> {
+    fn power_cut(&mut self, pages: &Device, acts: u64, allowed: &mut Allowed) -> Result<bool, Trouble>
+        ensures { λ _. ⌜ now (self .exit) .tally .commands ≡ now (self .entry) .tally .commands ⌝ }
+    {
         let mut trial = pages.copy(self.heap)?;
         let ran = self.spare.power(self.identity, &mut trial, acts)?;
         powered(&ran)?;
@@ -86,7 +93,9 @@ impl Pair {
     }
 
     // A power-up on stopped pages, cut off at each of its acts. One that writes nothing leaves the pages as they are.
-    fn every_power(&mut self, pages: &Device, allowed: &mut Allowed) -> Result<(), Trouble> {
+    fn every_power(&mut self, pages: &Device, allowed: &mut Allowed) -> Result<(), Trouble>
+        ensures { λ _. ⌜ now (self .exit) .tally .commands ≡ now (self .entry) .tally .commands ⌝ }
+    {
         let mut trial = pages.copy(self.heap)?;
         let ran = self.spare.power_whole(self.identity, &mut trial)?;
         if ran.acts.writes == 0 {
@@ -101,7 +110,9 @@ impl Pair {
     }
 
     // What waits when power is lost is left in every way.
-    fn every_way(&mut self, trial: &Device, allowed: &mut Allowed) -> Result<(), Trouble> {
+    fn every_way(&mut self, trial: &Device, allowed: &mut Allowed) -> Result<(), Trouble>
+        ensures { λ _. ⌜ now (self .exit) .tally .commands ≡ now (self .entry) .tally .commands ⌝ }
+    {
         for number in 0..ways(trial.waiting()) {
             let left = stopped(self.heap, trial, number)?;
             self.is_allowed(&left, allowed)?;
@@ -111,7 +122,9 @@ impl Pair {
     }
 
     // A command that is cut off after so many acts. Says whether it came to its end.
-    fn cut(&mut self, saying: &Saying, acts: u64) -> Result<bool, Trouble> {
+    fn cut(&mut self, saying: &Saying, acts: u64) -> Result<bool, Trouble>
+        ensures { λ _. ⌜ now (self .exit) .tally .commands ≡ now (self .entry) .tally .commands ⌝ }
+    {
         let mut after = self.plain.copy(self.heap)?;
         let expected = answer(self.heap, &mut after, saying)?;
         let mut trial = self.device.copy(self.heap)?;
@@ -123,7 +136,9 @@ impl Pair {
         Ok(ended)
     }
 
-    fn every_cut(&mut self, saying: &Saying) -> Result<(), Trouble> {
+    fn every_cut(&mut self, saying: &Saying) -> Result<(), Trouble>
+        ensures { λ r. ⌜ made r (λ _. now (self .exit) .tally .commands ≡ more-by (now (self .entry) .tally .commands) 1) ⌝ }
+    {
         for acts in 0..MOST_ACTS {
             if self.cut(saying, acts)? {
                 break;
@@ -133,7 +148,9 @@ impl Pair {
     }
 
     // An item of a day that is played with a stop at every act: each command, and power where the day has it, after a stop at rest.
-    pub fn item_every_act(&mut self, item: &Item) -> Result<(), Trouble> {
+    pub fn item_every_act(&mut self, item: &Item) -> Result<(), Trouble>
+        ensures { λ r. ⌜ made r (λ _. now (self .exit) .tally .commands ≡ counted (now (item .entry)) (now (self .entry) .tally .commands)) ⌝ }
+    {
         match item {
             Item::Power => {
                 self.device.stop(&[]);

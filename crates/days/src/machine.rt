@@ -76,7 +76,7 @@ pub struct Acts {
 }
 
 impl Acts {
-    pub fn none() -> Acts {
+    pub(super) fn none() -> Acts {
         Acts { reads: 0, writes: 0, flushes: 0, others: 0 }
     }
 
@@ -89,7 +89,7 @@ impl Acts {
         }
     }
 
-    pub fn add(&mut self, other: Acts) {
+    pub(super) fn add(&mut self, other: Acts) {
         self.reads = self.reads.saturating_add(other.reads);
         self.writes = self.writes.saturating_add(other.writes);
         self.flushes = self.flushes.saturating_add(other.flushes);

@@ -1,4 +1,9 @@
 // Makes days by chance: what is said, when power comes, and when it goes.
+ghost use mathlib.Core.Path.{_≡_};
+ghost use Prim.Native.Nat.{_+_};
+ghost use Rattle.std.specs.Of.Vec.{vec-items};
+ghost use Rattle.std.specs.Vec.{made};
+ghost use Rattle.days.specs.Played.{Fitting, all-said};
 use super::command::Command;
 use super::command::Kind;
 use super::command::KindDisplay;
@@ -20,6 +25,9 @@ const SIZES: [u64; 4] = [256, 257, 300, 1024];
 
 // A stop is told of so many waiting writes; of those after them nothing is left.
 const TOLD_WRITES: usize = 24;
+
+// At most so many power-ups are cut off before power stays.
+const MOST_CUT_POWERS: u64 = 4;
 
 // What is said to the house: a text, and the command that it spells, if it spells one.
 #[derive(Drop)]
@@ -138,7 +146,9 @@ impl Maker {
         Maker { heap, random, mood, names: length.saturating_mul(2).saturating_add(8) }
     }
 
-    fn identity(&mut self, pages: Option<u64>) -> Identity {
+    fn identity(&mut self, pages: Option<u64>) -> Identity
+        ensures { λ r. ⌜ Fitting pages r ⌝ }
+    {
         let houses = self.random.below(MOST_HOUSES).saturating_add(1);
         let house = self.random.below(houses);
         let chosen = match self.random.below(4) {
@@ -358,35 +368,56 @@ impl Maker {
         Ok(Stop { acts, leaves })
     }
 
-    // Power, now and then after some that was lost at once.
-    fn power(&mut self, items: &mut Vec<Item>) -> Result<(), AllocError> {
-        for _ in 0..4 {
-            if self.random.once_in(4) {
-                items.push(Item::PowerStops(self.stop()?))?;
-            }
+    // Now and then a power-up that is cut off.
+    fn cut_power(&mut self, items: &mut Vec<Item>) -> Result<(), AllocError>
+        ensures { λ r. ⌜ made r (λ _. all-said (vec-items (now (items .exit))) ≡ all-said (vec-items (now (items .entry)))) ⌝ }
+    {
+        if !self.random.once_in(4) {
+            return Ok(());
+        }
+        items.push(Item::PowerStops(self.stop()?))?;
+        Ok(())
+    }
+
+    // Power, unless it is there.
+    fn power(&mut self, up: bool, items: &mut Vec<Item>) -> Result<(), AllocError>
+        ensures { λ r. ⌜ made r (λ _. all-said (vec-items (now (items .exit))) ≡ all-said (vec-items (now (items .entry)))) ⌝ }
+    {
+        if up {
+            return Ok(());
+        }
+        for _ in 0..MOST_CUT_POWERS {
+            self.cut_power(items)?;
         }
         items.push(Item::Power)?;
         Ok(())
     }
+
+    // A command, to its end or not. Says whether there is power afterwards.
+    fn said(&mut self, items: &mut Vec<Item>) -> Result<bool, AllocError>
+        ensures { λ r. ⌜ made r (λ _. all-said (vec-items (now (items .exit))) ≡ all-said (vec-items (now (items .entry))) + 1) ⌝ }
+    {
+        let saying = self.saying()?;
+        if self.random.once_in(4) {
+            items.push(Item::Stops(saying, self.stop()?))?;
+            return Ok(false);
+        }
+        items.push(Item::Whole(saying))?;
+        Ok(true)
+    }
 }
 
 // The day of a number, with so many commands, on so many pages or on as many as the number says.
-pub fn make_day(heap: Global, number: u64, length: u64, pages: Option<u64>) -> Result<Day, AllocError> {
+pub fn make_day(heap: Global, number: u64, length: u64, pages: Option<u64>) -> Result<Day, AllocError>
+    ensures { λ r. ⌜ made r (λ d. Fitting pages (d .identity) × (all-said (vec-items (d .items)) ≡ length)) ⌝ }
+{
     let mut maker = Maker::new(heap, number, length);
     let identity = maker.identity(pages);
     let mut items = Vec::new(heap);
     let mut up = false;
     for _ in 0..length {
-        if !up {
-            maker.power(&mut items)?;
-        }
-        let saying = maker.saying()?;
-        up = !maker.random.once_in(4);
-        if up {
-            items.push(Item::Whole(saying))?;
-        } else {
-            items.push(Item::Stops(saying, maker.stop()?))?;
-        }
+        maker.power(up, &mut items)?;
+        up = maker.said(&mut items)?;
     }
     Ok(Day { identity, items })
 }

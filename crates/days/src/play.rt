@@ -1,4 +1,8 @@
 // Plays a day on the real house and beside it on a plain one, and finds where they differ.
+ghost use mathlib.Core.Path.{_≡_};
+ghost use lib.ListN.{replicate};
+ghost use Rattle.std.specs.Vec.{made};
+ghost use Rattle.days.specs.Played.{Played, Both, more-by, counted};
 use super::command::Command;
 use super::device::Device;
 use super::machine::Fault;
@@ -114,11 +118,15 @@ pub struct Tally {
 }
 
 impl Tally {
-    pub fn new() -> Tally {
+    pub fn new() -> Tally
+        ensures { λ r. ⌜ r ≡ record { commands = 0; done = 0; refused = replicate 10 0; stops = 0; «cut_powers» = 0 } ⌝ }
+    {
         Tally { commands: 0, done: 0, refused: [0; REFUSALS], stops: 0, cut_powers: 0 }
     }
 
-    fn count(&mut self, end: End) {
+    fn count(&mut self, end: End)
+        ensures { λ _. ⌜ now (self .exit) .commands ≡ more-by (now (self .entry) .commands) 1 ⌝ }
+    {
         self.commands = self.commands.saturating_add(1);
         match end {
             End::Done => self.done = self.done.saturating_add(1),
@@ -132,13 +140,15 @@ impl Tally {
         }
     }
 
-    pub fn add(&mut self, other: &Tally) {
+    pub fn add(&mut self, other: &Tally)
+        ensures { λ _. ⌜ Both (now (self .entry)) (now (other .entry)) (now (self .exit)) ⌝ }
+    {
         self.commands = self.commands.saturating_add(other.commands);
         self.done = self.done.saturating_add(other.done);
         self.stops = self.stops.saturating_add(other.stops);
         self.cut_powers = self.cut_powers.saturating_add(other.cut_powers);
-        for (mine, theirs) in self.refused.iter_mut().zip(other.refused.iter()) {
-            *mine = mine.saturating_add(*theirs);
+        for number in 0..REFUSALS {
+            self.refused[number] = self.refused[number].saturating_add(other.refused[number]);
         }
     }
 }
@@ -236,7 +246,9 @@ fn is_as(heap: Global, machine: &mut Machine, device: &mut Device, plain: &mut P
 }
 
 impl Pair {
-    pub fn new(heap: Global, identity: Identity) -> Result<Pair, AllocError> {
+    pub fn new(heap: Global, identity: Identity) -> Result<Pair, AllocError>
+        ensures { λ r. ⌜ made r (λ p. p .tally .commands ≡ 0) ⌝ }
+    {
         let pages = usize::try_from(identity.pages).unwrap_or(0);
         let device = Device::new(heap, pages)?;
         let machine = Machine::new(heap)?;
@@ -269,13 +281,17 @@ impl Pair {
         differs(Difference::Showed { expected: expected.rows, got: got.rows })
     }
 
-    pub fn power(&mut self) -> Result<(), Trouble> {
+    pub fn power(&mut self) -> Result<(), Trouble>
+        ensures { λ _. ⌜ now (self .exit) .tally .commands ≡ now (self .entry) .tally .commands ⌝ }
+    {
         let ran = self.machine.power_whole(self.identity, &mut self.device)?;
         powered(&ran)
     }
 
     // Looks at a copy of stopped pages, by a house that gets power in the spare memory: is it as this plain house?
-    pub fn look(&mut self, stopped: &Device, plain: &mut PlainHouse) -> Result<bool, Trouble> {
+    pub fn look(&mut self, stopped: &Device, plain: &mut PlainHouse) -> Result<bool, Trouble>
+        ensures { λ _. ⌜ now (self .exit) .tally .commands ≡ now (self .entry) .tally .commands ⌝ }
+    {
         let mut pages = stopped.copy(self.heap)?;
         let ran = self.spare.power_whole(self.identity, &mut pages)?;
         powered(&ran)?;
@@ -297,7 +313,9 @@ impl Pair {
     }
 
     // Stopped pages come up as one of the houses that are allowed: says which.
-    pub fn comes_up(&mut self, pages: &Device, allowed: &mut Allowed) -> Result<Found, Trouble> {
+    pub fn comes_up(&mut self, pages: &Device, allowed: &mut Allowed) -> Result<Found, Trouble>
+        ensures { λ _. ⌜ now (self .exit) .tally .commands ≡ now (self .entry) .tally .commands ⌝ }
+    {
         if let Some(before) = &mut allowed.before {
             if self.look(pages, before)? {
                 return Ok(Found::Before);
@@ -313,7 +331,9 @@ impl Pair {
     }
 
     // A power-up that is cut off changes nothing.
-    fn power_stops(&mut self, stop: &Stop) -> Result<(), Trouble> {
+    fn power_stops(&mut self, stop: &Stop) -> Result<(), Trouble>
+        ensures { λ _. ⌜ now (self .exit) .tally .commands ≡ now (self .entry) .tally .commands ⌝ }
+    {
         let ran = self.machine.power(self.identity, &mut self.device, stop.acts)?;
         powered(&ran)?;
         self.tally.cut_powers = self.tally.cut_powers.saturating_add(1);
@@ -324,7 +344,9 @@ impl Pair {
         Ok(())
     }
 
-    pub fn whole(&mut self, saying: &Saying) -> Result<(), Trouble> {
+    pub fn whole(&mut self, saying: &Saying) -> Result<(), Trouble>
+        ensures { λ r. ⌜ made r (λ _. now (self .exit) .tally .commands ≡ more-by (now (self .entry) .tally .commands) 1) ⌝ }
+    {
         let mut after = self.plain.copy(self.heap)?;
         let expected = answer(self.heap, &mut after, saying)?;
         let Ran { turn, .. } = self.machine.say_whole(saying.text.as_slice(), &mut self.device)?;
@@ -333,7 +355,9 @@ impl Pair {
         Ok(())
     }
 
-    fn stops(&mut self, saying: &Saying, stop: &Stop) -> Result<(), Trouble> {
+    fn stops(&mut self, saying: &Saying, stop: &Stop) -> Result<(), Trouble>
+        ensures { λ r. ⌜ made r (λ _. now (self .exit) .tally .commands ≡ more-by (now (self .entry) .tally .commands) 1) ⌝ }
+    {
         let mut after = self.plain.copy(self.heap)?;
         let expected = answer(self.heap, &mut after, saying)?;
         let Ran { turn, .. } = self.machine.say(saying.text.as_slice(), &mut self.device, stop.acts)?;
@@ -349,12 +373,32 @@ impl Pair {
         Ok(())
     }
 
-    fn item(&mut self, item: &Item) -> Result<(), Trouble> {
+    fn item(&mut self, item: &Item) -> Result<(), Trouble>
+        ensures { λ r. ⌜ made r (λ _. now (self .exit) .tally .commands ≡ counted (now (item .entry)) (now (self .entry) .tally .commands)) ⌝ }
+    {
         match item {
             Item::Power => self.power(),
             Item::PowerStops(stop) => self.power_stops(stop),
             Item::Whole(saying) => self.whole(saying),
             Item::Stops(saying, stop) => self.stops(saying, stop),
+        }
+    }
+}
+
+// How a day is played: as it was made, or with a stop at every act of its commands in place of those that it was made with.
+#[derive(Clone, Copy, PartialEq, Eq)]
+pub enum Manner {
+    AsMade,
+    EveryAct,
+}
+
+impl Pair {
+    fn play(&mut self, item: &Item, manner: Manner) -> Result<(), Trouble>
+        ensures { λ r. ⌜ made r (λ _. now (self .exit) .tally .commands ≡ counted (now (item .entry)) (now (self .entry) .tally .commands)) ⌝ }
+    {
+        match manner {
+            Manner::AsMade => self.item(item),
+            Manner::EveryAct => self.item_every_act(item),
         }
     }
 }
@@ -366,21 +410,12 @@ pub enum Outcome {
     Differs { item: usize, difference: Difference },
 }
 
-// How a day is played: as it was made, or with a stop at every act of its commands in place of those that it was made with.
-#[derive(Clone, Copy, PartialEq, Eq)]
-pub enum Manner {
-    AsMade,
-    EveryAct,
-}
-
-pub fn play_day(heap: Global, day: &Day, manner: Manner) -> Result<Outcome, AllocError> {
+pub fn play_day(heap: Global, day: &Day, manner: Manner) -> Result<Outcome, AllocError>
+    ensures { λ r. ⌜ made r (λ o. Played (now (day .entry)) o) ⌝ }
+{
     let mut pair = Pair::new(heap, day.identity)?;
     for (place, item) in day.items.as_slice().iter().enumerate() {
-        let result = match manner {
-            Manner::AsMade => pair.item(item),
-            Manner::EveryAct => pair.item_every_act(item),
-        };
-        match result {
+        match pair.play(item, manner) {
             Ok(()) => {}
             Err(Trouble::NoMemory) => return Err(AllocError),
             Err(Trouble::Differs(difference)) => return Ok(Outcome::Differs { item: place, difference }),

@@ -8,9 +8,11 @@ use native.Mathlib.Omega.{arith}
 use lib.Dec.{eqb, ltb}
 use native.Mathlib.Nat.{zero-add, suc-add, sub-zero, zero-sub, suc-sub-suc}
 use lib.ListN.{length, getD, set, take, drop, length-append, length-take, length-drop, take-append-drop}
-use lib.Seq.{take-append-le, drop-append-le, take-take, drop-drop}
-use Rattle.std.proofs.shelf.Lists.{nil-from-length}
-use Rattle.std.proofs.shelf.Parts.{between-is}
+use native.Mathlib.Numerals.{add-one}
+use lib.Seq.{take-append-le, drop-append-le, take-append-seam, take-all, take-take, take-add, drop-at, drop-drop, getD-take, getD-drop, length-take-le, set-split}
+use borrow.Rule.Slice.PartMut.{putMid}
+use Rattle.std.proofs.shelf.Lists.{nil-from-length, drop-all, drop-take, getD-append-left}
+use Rattle.std.proofs.shelf.Parts.{between-is, drop-putMid, take-putMid, take-putMid-below}
 use Rattle.std.proofs.shelf.Tests.{ltb-true, lt-ltb, eq-eqb, and-parts, and-from}
 use Rattle.model.specs.Mail.{every, flat, in-bytes, eight, all-bytes}
 use Rattle.model.specs.Device.{zeros, a-page}
@@ -276,3 +278,143 @@ bytes-of-zeros (suc n) =
 pub words-in-zeros : (n : ℕ) → words-in n (zeros (8 * n)) ≡ zeros n
 words-in-zeros n =
     ap (words-in n) (sym (bytes-of-zeros n)) ∙ ap (λ k. words-in k (bytes-of (zeros n))) (sym (length-zeros n)) ∙ words-in-bytes (zeros n) (all-small-zeros n)
+
+-- parts and patches
+
+pub length-part : (xs : List ℕ) (at n : ℕ) → at + n ≤ length xs → length (part xs at n) ≡ n
+length-part xs at n h = rw (length-take, length-drop) (omega arith)
+
+pub all-small-part : (xs : List ℕ) (at n : ℕ) → all-small xs ≡ true → all-small (part xs at n) ≡ true
+all-small-part xs at n h = all-small-take n (drop at xs) (all-small-drop at xs h)
+
+pub getD-part : (xs : List ℕ) (at n i d : ℕ) → i < n → getD (part xs at n) i d ≡ getD xs (at + i) d
+getD-part xs at n i d h = getD-take n (drop at xs) i d h ∙ getD-drop at xs i d
+
+pub part-of-part : (xs : List ℕ) (a n b k : ℕ) → b + k ≤ n → part (part xs a n) b k ≡ part xs (a + b) k
+part-of-part xs a n b k h =
+    let l : k ≤ n - b = omega arith in
+    ap (take k) (sym (between-is (drop a xs) b n)) ∙ take-take k (n - b) (drop b (drop a xs)) l ∙ ap (take k) (drop-drop b a xs)
+
+-- two parts side by side are one
+pub part-more : (xs : List ℕ) (at m n : ℕ) → part xs at (m + n) ≡ part xs at m ++ part xs (at + m) n
+part-more xs at m n = take-add m n (drop at xs) ∙ ap (λ r. take m (drop at xs) ++ take n r) (drop-drop m at xs)
+
+pub part-all : (xs : List ℕ) (n : ℕ) → length xs ≡ n → part xs 0 n ≡ xs
+part-all xs n e = take-all n xs (omega arith)
+
+-- what the checker shows after a write to a lent part
+pub patched-is-putMid : (xs : List ℕ) (a e : ℕ) (ws : List ℕ) → length ws ≡ e - a → putMid a (e - a) xs ws ≡ patched xs a ws
+patched-is-putMid xs a e ws h = rw (← h)
+
+pub length-patched : (xs : List ℕ) (at : ℕ) (ws : List ℕ) → at + length ws ≤ length xs → length (patched xs at ws) ≡ length xs
+length-patched xs at ws h = simp (length-append, length-take, length-drop) (omega arith)
+
+pub all-small-patched : (xs : List ℕ) (at : ℕ) (ws : List ℕ) → all-small xs ≡ true → all-small ws ≡ true → all-small (patched xs at ws) ≡ true
+all-small-patched xs at ws h k =
+    all-small-append
+    (take at xs)
+    (ws ++ drop (length ws) (drop at xs))
+    (all-small-take at xs h)
+    (all-small-append ws (drop (length ws) (drop at xs)) k (all-small-drop (length ws) (drop at xs) (all-small-drop at xs h)))
+
+pub drop-patched : (xs : List ℕ) (at : ℕ) (ws : List ℕ) → at ≤ length xs → drop at (patched xs at ws) ≡ ws ++ drop (length ws) (drop at xs)
+drop-patched xs at ws h = drop-at (take at xs) (ws ++ drop (length ws) (drop at xs)) at (length-take-le at xs h)
+
+pub drop-patched-after : (xs : List ℕ) (at : ℕ) (ws : List ℕ) (b : ℕ) → at ≤ length xs → at + length ws ≤ b → drop b (patched xs at ws) ≡ drop b xs
+drop-patched-after xs at ws b h k = drop-putMid at (length ws) xs ws b k h refl
+
+pub take-patched-before : (xs : List ℕ) (at : ℕ) (ws : List ℕ) (n : ℕ) → at ≤ length xs → n ≤ at → take n (patched xs at ws) ≡ take n xs
+take-patched-before xs at ws n h k = take-putMid-below at (length ws) xs ws n k h
+
+-- the part that was written, and the parts that were not
+pub part-patched : (xs : List ℕ) (at : ℕ) (ws : List ℕ) → at ≤ length xs → part (patched xs at ws) at (length ws) ≡ ws
+part-patched xs at ws h = rw (drop-patched xs at ws h) (take-append-seam ws (drop (length ws) (drop at xs)))
+
+pub part-patched-before : (xs : List ℕ) (at : ℕ) (ws : List ℕ) (b n : ℕ) → at ≤ length xs → b + n ≤ at → part (patched xs at ws) b n ≡ part xs b n
+part-patched-before xs at ws b n h k =
+    sym (drop-take b n (patched xs at ws)) ∙ ap (drop b) (take-patched-before xs at ws (b + n) h k) ∙ drop-take b n xs
+
+pub part-patched-after : (xs : List ℕ) (at : ℕ) (ws : List ℕ) (b n : ℕ) → at ≤ length xs → at + length ws ≤ b → part (patched xs at ws) b n ≡ part xs b n
+part-patched-after xs at ws b n h k = ap (take n) (drop-patched-after xs at ws b h k)
+
+-- one element
+pub getD-patched : (xs : List ℕ) (at : ℕ) (ws : List ℕ) (i d : ℕ) → at ≤ length xs → i < length ws → getD (patched xs at ws) (at + i) d ≡ getD ws i d
+getD-patched xs at ws i d h k =
+    sym (getD-drop at (patched xs at ws) i d) ∙ ap (λ l. getD l i d) (drop-patched xs at ws h) ∙ getD-append-left ws (drop (length ws) (drop at xs)) d i k
+
+pub getD-patched-before : (xs : List ℕ) (at : ℕ) (ws : List ℕ) (i d : ℕ) → at ≤ length xs → i < at → getD (patched xs at ws) i d ≡ getD xs i d
+getD-patched-before xs at ws i d h k =
+    sym (getD-take at (patched xs at ws) i d k) ∙ ap (λ l. getD l i d) (take-patched-before xs at ws at h (omega arith)) ∙ getD-take at xs i d k
+
+pub getD-patched-after : (xs : List ℕ) (at : ℕ) (ws : List ℕ) (i d : ℕ) → at ≤ length xs → at + length ws ≤ i → getD (patched xs at ws) i d ≡ getD xs i d
+getD-patched-after xs at ws i d h k =
+    let e : i ≡ i + 0 = omega arith in
+    rw e (sym (getD-drop i (patched xs at ws) 0 d) ∙ ap (λ l. getD l 0 d) (drop-patched-after xs at ws i h k) ∙ getD-drop i xs 0 d)
+
+-- a patch inside a part
+take-front : (ws : List ℕ) (n : ℕ) (xs : List ℕ) → length ws ≤ n → length ws ≤ length xs →
+    take n (ws ++ drop (length ws) xs) ≡ ws ++ drop (length ws) (take n xs)
+take-front [] n xs h k = refl
+take-front (w ∷ ws) zero xs h k = absurd (omega arith)
+take-front (w ∷ ws) (suc n) [] h k = absurd (omega arith)
+take-front (w ∷ ws) (suc n) (x ∷ xs) h k = ap (λ r. w ∷ r) (take-front ws n xs (omega arith) (omega arith))
+
+pub take-patched : (xs : List ℕ) (at : ℕ) (ws : List ℕ) (n : ℕ) → at + length ws ≤ n → at + length ws ≤ length xs → take n (patched xs at ws) ≡ patched (take n xs) at ws
+take-patched xs zero ws n h k = take-front ws n xs (omega arith) (omega arith)
+take-patched [] (suc at) ws n h k = absurd (omega arith)
+take-patched (x ∷ xs) (suc at) ws zero h k = absurd (omega arith)
+take-patched (x ∷ xs) (suc at) ws (suc n) h k = ap (λ r. x ∷ r) (take-patched xs at ws n (omega arith) (omega arith))
+
+pub drop-patched-inside : (xs : List ℕ) (a b : ℕ) (ws : List ℕ) → a + b ≤ length xs → drop a (patched xs (a + b) ws) ≡ patched (drop a xs) b ws
+drop-patched-inside xs a b ws h =
+    drop-append-le a (take (a + b) xs) (ws ++ drop (length ws) (drop (a + b) xs)) (omega (arith, length-take (a + b) xs))
+    ∙ ap (λ r. r ++ (ws ++ drop (length ws) (drop (a + b) xs))) (drop-take a b xs)
+    ∙ ap (λ r. take b (drop a xs) ++ (ws ++ drop (length ws) r)) (sym (drop-drop b a xs))
+
+pub part-patched-inside : (xs : List ℕ) (a b n : ℕ) (ws : List ℕ) → b + length ws ≤ n → a + n ≤ length xs →
+    part (patched xs (a + b) ws) a n ≡ patched (part xs a n) b ws
+part-patched-inside xs a b n ws h k =
+    ap (take n) (drop-patched-inside xs a b ws (omega arith)) ∙ take-patched (drop a xs) b ws n h (omega (arith, length-drop a xs))
+
+-- a patch next to a part
+pub part-patched-next : (xs : List ℕ) (a n : ℕ) (ws : List ℕ) → a + n + length ws ≤ length xs →
+    part (patched xs (a + n) ws) a (n + length ws) ≡ part xs a n ++ ws
+part-patched-next xs a n ws h =
+    part-more (patched xs (a + n) ws) a n (length ws)
+    ∙ ap (λ r. r ++ part (patched xs (a + n) ws) (a + n) (length ws)) (part-patched-before xs (a + n) ws a n (omega arith) (omega arith))
+    ∙ ap (λ r. part xs a n ++ r) (part-patched xs (a + n) ws (omega arith))
+
+-- one word is a patch
+pub set-is-patched : (xs : List ℕ) (i w : ℕ) → i < length xs → set xs i w ≡ patched xs i (w ∷ [])
+set-is-patched xs i w h = set-split xs i w h ∙ ap (λ r. take i xs ++ w ∷ r) (ap (λ k. drop k xs) (sym (add-one i)) ∙ sym (drop-drop 1 i xs))
+
+-- what is written twice over counts once
+pub patched-patched : (xs : List ℕ) (at : ℕ) (vs ws : List ℕ) → at ≤ length xs → length vs ≡ length ws →
+    patched (patched xs at vs) at ws ≡ patched xs at ws
+patched-patched xs at vs ws h e =
+    ap
+    (λ r. r ++ (ws ++ drop (length ws) (drop at (patched xs at vs))))
+    (take-patched-before xs at vs at h (omega arith))
+    ∙ ap
+    (λ r. take at xs ++ (ws ++ r))
+    (drop-drop (length ws) at (patched xs at vs) ∙ drop-patched-after xs at vs (at + length ws) h (omega arith) ∙ sym (drop-drop (length ws) at xs))
+
+-- two patches side by side are one
+pub patched-next : (xs : List ℕ) (at : ℕ) (vs ws : List ℕ) → at + length vs ≤ length xs →
+    patched (patched xs at vs) (at + length vs) ws ≡ patched xs at (vs ++ ws)
+patched-next xs at vs ws h =
+    ap
+    (λ r. r ++ (ws ++ drop (length ws) (drop (at + length vs) (patched xs at vs))))
+    (take-putMid at (length vs) xs vs (at + length vs) refl (omega arith))
+    ∙ ap
+    (λ r. (take at xs ++ vs) ++ (ws ++ r))
+    (ap (drop (length ws)) (drop-patched-after xs at vs (at + length vs) (omega arith) (omega arith) ∙ sym (drop-drop (length vs) at xs))
+        ∙ drop-drop (length ws) (length vs) (drop at xs) ∙ ap (λ k. drop k (drop at xs)) (sym (length-append vs ws)))
+    ∙ append-assoc (take at xs) vs (ws ++ drop (length (vs ++ ws)) (drop at xs))
+    ∙ ap (λ r. take at xs ++ r) (sym (append-assoc vs ws (drop (length (vs ++ ws)) (drop at xs))))
+
+pub patched-all : (xs ws : List ℕ) → length ws ≡ length xs → patched xs 0 ws ≡ ws
+patched-all xs ws e = ap (λ r. ws ++ r) (drop-all (length ws) xs (omega arith)) ∙ append-nil ws
+
+pub patched-none : (xs : List ℕ) (at : ℕ) → patched xs at [] ≡ xs
+patched-none xs at = take-append-drop at xs

@@ -2,12 +2,12 @@
 use mathlib.Core.Path.{_≡_, refl, sym, _∙_, ap}
 use mathlib.Core.List.{List, [], _∷_, _++_}
 use mathlib.Core.Logic.{_≢_}
-use Prim.Native.Nat.{ℕ, zero, suc, _+_, _*_, _-_, _≤_, _<_}
+use Prim.Native.Nat.{ℕ, zero, suc, _+_, _*_, _-_, _/_, _≤_, _<_}
 use native.Mathlib.Omega.{arith}
 use lib.ListN.{length, getD, take}
 use Rattle.model.specs.Device.{Page, Write, set-page, page-at}
 use Rattle.pages.specs.Bits.{bit, word-bit}
-use Rattle.pages.specs.Geometry.{table-pages, selector-pages, selector-place, table-place, body-place}
+use Rattle.pages.specs.Geometry.{most-boxes, table-pages, selector-pages, selector-place, table-place, body-place}
 use Rattle.pages.specs.Store.{Image, Kept, version, area}
 use Rattle.pages.specs.Commit.{Spare}
 use Rattle.pages.proofs.Reading.{length-set-page, page-at-set-other}
@@ -103,3 +103,10 @@ Of-bodies P B = (ps : List Page) (k : ℕ) (p : Page) → k < body-place P 0 →
 
 pub bodies-harmless : (P : ℕ) (B : List Page → Type 0) (k : ℕ) (p : Page) → Of-bodies P B → k < body-place P 0 → Harmless B (record { at = k; page = p })
 bodies-harmless P B k p f l = place-harmless B k p (λ ps q h. f ps k q l h)
+
+-- the header, the selector pages and the table fit before the bodies
+room-for : (P m T Q : ℕ) → 256 ≤ P → 64 * T ≤ 864 + 12 * m + 63 + 8 * (P / 2 + 7) → m ≤ P / 2 → 4096 * Q ≤ T + 4095 → 1 + 2 * Q + 2 * T + 0 ≤ P
+room-for P m T Q a b c e = omega arith
+
+pub bodies-begin : (P : ℕ) → 256 ≤ P → body-place P 0 ≤ P
+bodies-begin P l = room-for P (most-boxes P) (table-pages P) (selector-pages P) l (omega arith) (omega arith) (omega arith)

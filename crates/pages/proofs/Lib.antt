@@ -1,3 +1,4 @@
 pub mod Reading
 pub mod Harmless
 pub mod Kept
+pub mod Commit

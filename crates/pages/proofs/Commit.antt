@@ -17,8 +17,9 @@ use Rattle.pages.specs.Geometry.{table-pages, selector-pages, selector-place, 
 use Rattle.pages.specs.Store.{Image, Kept, Table-kept, Selectors-kept, version, area}
 use Rattle.pages.specs.Commit.{Spare}
 use Rattle.pages.proofs.Reading.{length-set-page, page-at-set-same, page-at-set-other, written-queued, read-queued-same, read-queued-other, read-flushed}
+use Rattle.pages.proofs.Geometry.{selector-place-same, selector-place-some, table-place-some, table-place-apart, table-place-bits, selector-table-apart}
 use Rattle.pages.proofs.Harmless.{Harmless, Both, both-harmless, pick-either, Working, working-queued, working-flushed, working-still, working-read, working-stopped}
-use Rattle.pages.proofs.Kept.{Of-bodies, spare-harmless, bodies-harmless, twin-spare, area-spare, body-spare, table-below, selectors-below, tables-apart, table-not-selectors}
+use Rattle.pages.proofs.Kept.{Of-bodies, spare-harmless, bodies-harmless, twin-spare, area-spare, body-spare, table-below, selectors-below}
 
 -- what reading shows of an image
 abbrev pub Table-shown : ℕ → Image → Device → ℕ → Type 0
@@ -56,9 +57,6 @@ Also t shown u = (u ≡ t) ⊎ shown u
 abbrev pub Untouched : Image → Image → ℕ → Type 0
 Untouched s s′ t = (bit (s .selectors) t ≡ bit (s′ .selectors) t) × (s′ .table t ≡ s .table t)
 
-table-place-same : (P : ℕ) (ws vs : List ℕ) (t : ℕ) → bit ws t ≡ bit vs t → table-place P ws t ≡ table-place P vs t
-table-place-same P ws vs t e = ap (λ b. 1 + 2 * selector-pages P + 2 * t + b) e
-
 pub begins : (P : ℕ) (s : Image) (B : List Page → Type 0) (d : Device) → Working (Both (Kept P s) B) d → Committing P s s B B All None d
 begins P s B d w = record {
     working = w;
@@ -72,7 +70,7 @@ pub turns : (P : ℕ) (s s′ s″ : Image) (B B′ : List Page → Type 0) (tab
     Committing P s s″ B B′ (λ t. tables t × Untouched s′ s″ t) None d
 turns P s s′ s″ B B′ tables selectors d c = record {
     working = c .working;
-    tables-shown = λ t l h. ap (read-page d) (sym (table-place-same P (s′ .selectors) (s″ .selectors) t (h .1 .0))) ∙ (c .tables-shown t l (h .0) ∙ ap bytes-of (sym (h .1 .1)));
+    tables-shown = λ t l h. ap (read-page d) (sym (table-place-bits P (s′ .selectors) (s″ .selectors) t (h .1 .0))) ∙ (c .tables-shown t l (h .0) ∙ ap bytes-of (sym (h .1 .1)));
     selectors-shown = λ q l n. absurd n;
     bodies-shown = c .bodies-shown
   }
@@ -86,9 +84,6 @@ shown-less P s s′ B B′ tables selectors tables₂ selectors₂ d f g c = rec
     selectors-shown = λ q l h. c .selectors-shown q l (g q l h);
     bodies-shown = c .bodies-shown
   }
-
-selectors-apart : (Q a q r : ℕ) → q ≢ r → 1 + a * Q + q ≢ 1 + a * Q + r
-selectors-apart Q a q r n e = n (omega arith)
 
 apart : (j m k : ℕ) → j < m → m ≤ k → j ≢ k
 apart j m k a b e = omega arith
@@ -116,7 +111,7 @@ module _ (P : ℕ) (s s′ : Image) (B B′ : List Page → Type 0) (f : Follows
       working = spare-queued place p (twin-spare P s (s′ .selectors) t (f .old-area) n) (table-below P (s′ .selectors) t l) (c .working);
       tables-shown = λ u m h. elim (cases-eq u t) [ inl g ↦ subst (λ x. Table-shown P s′ (queued d place p) x) (sym g) here | inr g ↦ there u g m h ];
       selectors-shown = λ q m h.
-          read-queued-other d (selector-place P (area s′) q) place p (λ g. table-not-selectors P (s′ .selectors) t (area s′) q (omega (arith, f .new-area)) m (sym g)) ∙ c .selectors-shown q m h;
+          read-queued-other d (selector-place P (area s′) q) place p (selector-table-apart P (area s′) q (s′ .selectors) t (omega (arith, f .new-area)) m) ∙ c .selectors-shown q m h;
       bodies-shown = bodies-queued place p (table-below P (s′ .selectors) t l) (c .bodies-shown)
     }
     where
@@ -127,14 +122,14 @@ module _ (P : ℕ) (s s′ : Image) (B B′ : List Page → Type 0) (f : Follows
       there : (u : ℕ) → u ≢ t → u < table-pages P → Also t tables u → Table-shown P s′ (queued d place p) u
       there u g m (inl h) = absurd (g h)
       there u g m (inr h) =
-          read-queued-other d (table-place P (s′ .selectors) u) place p (tables-apart P (s′ .selectors) (s′ .selectors) u t (λ a. absurd (g a))) ∙ c .tables-shown u m h
+          read-queued-other d (table-place P (s′ .selectors) u) place p (table-place-apart P (s′ .selectors) (s′ .selectors) u t g) ∙ c .tables-shown u m h
 
   -- a selector page goes to the area that does not count
   pub writes-selectors : (q : ℕ) (p : Page) → q < selector-pages P → p ≡ bytes-of (part (s′ .selectors) (64 * q) 64) →
       Committing P s s′ B B′ tables selectors d → Committing P s s′ B B′ tables (Also q selectors) (queued d (selector-place P (area s′) q) p)
   writes-selectors q p l e c = record {
       working = spare-queued place p (area-spare P s (area s′) q (f .old-area) (f .new-area) l) below (c .working);
-      tables-shown = λ t m h. read-queued-other d (table-place P (s′ .selectors) t) place p (table-not-selectors P (s′ .selectors) t (area s′) q small l) ∙ c .tables-shown t m h;
+      tables-shown = λ t m h. read-queued-other d (table-place P (s′ .selectors) t) place p (λ g. selector-table-apart P (area s′) q (s′ .selectors) t small l (sym g)) ∙ c .tables-shown t m h;
       selectors-shown = λ r m h. elim (cases-eq r q) [ inl g ↦ subst (λ x. Selectors-shown P s′ (queued d place p) x) (sym g) here | inr g ↦ there r g m h ];
       bodies-shown = bodies-queued place p below (c .bodies-shown)
     }
@@ -149,7 +144,7 @@ module _ (P : ℕ) (s s′ : Image) (B B′ : List Page → Type 0) (f : Follows
       here = read-queued-same d place p (in-range c place below) ∙ e
       there : (r : ℕ) → r ≢ q → r < selector-pages P → Also q selectors r → Selectors-shown P s′ (queued d place p) r
       there r g m (inl h) = absurd (g h)
-      there r g m (inr h) = read-queued-other d (selector-place P (area s′) r) place p (selectors-apart (selector-pages P) (area s′) r q g) ∙ c .selectors-shown r m h
+      there r g m (inr h) = read-queued-other d (selector-place P (area s′) r) place p (λ a. g (selector-place-same P (area s′) (area s′) r q small small m l a .1)) ∙ c .selectors-shown r m h
 
   -- a body is written that harms no body that counts; what the bodies are to be may change with it
   pub writes-body : (k : ℕ) (p : Page) (B″ : List Page → Type 0) → body-place P 0 ≤ k → Harmless B (record { at = k; page = p }) → B″ (set-page (flushed d .pages) k p) →
@@ -212,8 +207,8 @@ module _ (P : ℕ) (s s′ : Image) (B B′ : List Page → Type 0) (f : Follows
   header-set p e = (record {
       sized = length-set-page (d .pages) 0 p ∙ r .old .0 .sized;
       header-kept = ap (λ x. take 256 x) (page-at-set-same (d .pages) 0 p (within 0 (body-place P 0) (length (d .pages)) P (omega arith) (f .room) (r .old .0 .sized))) ∙ e;
-      selectors-kept = λ v q l. page-at-set-other (d .pages) (selector-place P (area s′) q) 0 p (λ g. omega arith) ∙ r .new-selectors q l;
-      table-kept = λ t l. page-at-set-other (d .pages) (table-place P (s′ .selectors) t) 0 p (λ g. omega arith) ∙ r .new-table t l
+      selectors-kept = λ v q l. page-at-set-other (d .pages) (selector-place P (area s′) q) 0 p (selector-place-some P (area s′) q) ∙ r .new-selectors q l;
+      table-kept = λ t l. page-at-set-other (d .pages) (table-place P (s′ .selectors) t) 0 p (table-place-some P (s′ .selectors) t) ∙ r .new-table t l
     }, f .new-bodies (d .pages) 0 p (omega arith) (r .new-bodies))
 
   -- while the header waits a stop leaves the old image or the new one

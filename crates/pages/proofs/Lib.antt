@@ -1,3 +1,6 @@
+pub mod Words
+pub mod Bits
+pub mod Geometry
 pub mod Reading
 pub mod Harmless
 pub mod Kept

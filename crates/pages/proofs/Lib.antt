@@ -4,4 +4,5 @@ pub mod Geometry
 pub mod Reading
 pub mod Harmless
 pub mod Kept
+pub mod Blank
 pub mod Commit

@@ -6,3 +6,4 @@ pub mod Harmless
 pub mod Kept
 pub mod Blank
 pub mod Commit
+pub mod Atomic

@@ -1,7 +1,7 @@
 -- A commit cut off anywhere comes up as before or as after.
 use mathlib.Core.Path.{_≡_, refl, sym, _∙_, ap, subst}
 use mathlib.Core.Bool.{Bool, true}
-use mathlib.Core.List.{List, [], _∷_, _++_}
+use mathlib.Core.List.{List, [], _∷_, _++_, append-assoc}
 use mathlib.Core.Logic.{_≢_, _⊎_, inl, inr}
 use Prim.Native.Nat.{ℕ, zero, suc, _+_, _*_, _-_, _≤_, _<_}
 use native.Mathlib.Omega.{arith}
@@ -89,3 +89,130 @@ module _ (P : ℕ) (s : Image) (good : ℕ → Page → Bool) where
   unfolding after-all
   working-after-all [] d h w = w
   working-after-all (a ∷ acts) d h w = working-after-all acts (after d a) (h .1) (working-after d a (h .0) w)
+
+regroup : (t : ℕ) (ts : List ℕ) (shown : ℕ → Type 0) (u : ℕ) → In u (t ∷ ts) ⊎ shown u → In u ts ⊎ Also t shown u
+regroup t ts shown u (inl (inl e)) = inr (inl e)
+regroup t ts shown u (inl (inr i)) = inl i
+regroup t ts shown u (inr g) = inr (inr g)
+
+module _ (P : ℕ) (s s′ : Image) (B B′ : List Page → Type 0) (f : Follows P s s′ B B′) where
+  -- all touched table pages one after another
+  pub writes-tables : (selectors : ℕ → Type 0) (ts : List ℕ) (tables : ℕ → Type 0) (d : Device) →
+      Each (λ t. (t < table-pages P) × (bit (s′ .selectors) t ≢ bit (s .selectors) t)) ts → Committing P s s′ B B′ tables selectors d →
+      Committing P s s′ B B′ (λ t. In t ts ⊎ tables t) selectors (after-all d (each (table-write P s′) ts))
+  unfolding after after-all
+  writes-tables selectors [] tables d h c = shown-less P s s′ B B′ tables selectors (λ t. ⊥ ⊎ tables t) selectors d (λ t l i. elim i [ inl n ↦ absurd n | inr g ↦ g ]) (λ q l g. g) c
+  writes-tables selectors (t ∷ ts) tables d h c =
+      shown-less P s s′ B B′ (λ u. In u ts ⊎ Also t tables u) selectors (λ u. In u (t ∷ ts) ⊎ tables u) selectors
+          (after-all (queued d (table-place P (s′ .selectors) t) (bytes-of (s′ .table t))) (each (table-write P s′) ts)) (λ u l i. regroup t ts tables u i) (λ q l g. g)
+          (writes-tables selectors ts (Also t tables) (queued d (table-place P (s′ .selectors) t) (bytes-of (s′ .table t))) (h .1)
+            (writes-table P s s′ B B′ f tables selectors d t (bytes-of (s′ .table t)) (h .0 .0) (h .0 .1) refl c))
+
+  -- and the selector pages
+  pub writes-all-selectors : (tables : ℕ → Type 0) (qs : List ℕ) (selectors : ℕ → Type 0) (d : Device) → Each (λ q. q < selector-pages P) qs →
+      Committing P s s′ B B′ tables selectors d → Committing P s s′ B B′ tables (λ q. In q qs ⊎ selectors q) (after-all d (each (selector-write P s′) qs))
+  unfolding after after-all
+  writes-all-selectors tables [] selectors d h c = shown-less P s s′ B B′ tables selectors tables (λ q. ⊥ ⊎ selectors q) d (λ t l g. g) (λ q l i. elim i [ inl n ↦ absurd n | inr g ↦ g ]) c
+  writes-all-selectors tables (q ∷ qs) selectors d h c =
+      shown-less P s s′ B B′ tables (λ r. In r qs ⊎ Also q selectors r) tables (λ r. In r (q ∷ qs) ⊎ selectors r)
+          (after-all (queued d (selector-place P (area s′) q) (bytes-of (part (s′ .selectors) (64 * q) 64))) (each (selector-write P s′) qs)) (λ t l g. g) (λ r l i. regroup q qs selectors r i)
+          (writes-all-selectors tables qs (Also q selectors) (queued d (selector-place P (area s′) q) (bytes-of (part (s′ .selectors) (64 * q) 64))) (h .1)
+            (writes-selectors P s s′ B B′ f tables selectors d q (bytes-of (part (s′ .selectors) (64 * q) 64)) (h .0) refl c))
+
+-- the device after some acts of a list that is cut off behind them
+cut-behind : (xs ys zs : List Act) (n : ℕ) (d : Device) → length (xs ++ ys) ≡ n → after-all d (take n (xs ++ (ys ++ zs))) ≡ after-all (after-all d xs) ys
+cut-behind xs ys zs n d e =
+    ap (λ l. after-all d (take n l)) (sym (append-assoc xs ys zs)) ∙ (ap (after-all d) (take-at (xs ++ ys) zs n e) ∙ after-all-append xs ys d)
+
+module _ (P : ℕ) (s s′ : Image) (good good′ : ℕ → Page → Bool) (d : Device) (before : List Act) (ts : List ℕ) (header : Page) (c : Sound P s s′ good good′ d before ts header) where
+  follows : Follows P s s′ (Bodies-kept P good) (Bodies-kept P good′)
+  follows = record {
+      room = bodies-begin P (c .size);
+      old-area = c .old-area;
+      new-area = c .new-area;
+      old-bodies = of-bodies P good;
+      new-bodies = of-bodies P good′
+    }
+
+  writes : List Act
+  writes = before ++ each (table-write P s′) ts ++ each (selector-write P s′) (from 0 (selector-pages P))
+
+  -- all that is written before the header harms nothing
+  writes-harmless : Each (Harms-nothing P s good) writes
+  unfolding writes
+  writes-harmless =
+      each-append (Harms-nothing P s good) (before ++ each (table-write P s′) ts) (each (selector-write P s′) (from 0 (selector-pages P)))
+          (each-append (Harms-nothing P s good) before (each (table-write P s′) ts) (c .harmless)
+            (each-made (λ t. (t < table-pages P) × (bit (s′ .selectors) t ≢ bit (s .selectors) t)) (Harms-nothing P s good) (table-write P s′)
+              (λ t h. (twin-spare P s (s′ .selectors) t (c .old-area) (h .1), λ b e. absurd (table-body-apart P (s′ .selectors) t b (h .0) e))) ts (c .turned)))
+          (each-made (λ q. q < selector-pages P) (Harms-nothing P s good) (selector-write P s′)
+            (λ q h. (area-spare P s (area s′) q (c .old-area) (c .new-area) h, λ b e. absurd (selector-body-apart P (area s′) q b (omega (arith, c .old-area, c .new-area)) h e)))
+            (from 0 (selector-pages P)) (each-from (selector-pages P) 0 (selector-pages P) (omega arith)))
+
+  starts : Working (Counts P s good) d
+  starts = working-still (Counts P s good) d (c .still) (c .counts)
+
+  prepared : Prepared P s s′ (Bodies-kept P good) (Bodies-kept P good′) (flushed (after-all d writes))
+  unfolding writes
+  prepared =
+      subst (λ x. Prepared P s s′ (Bodies-kept P good) (Bodies-kept P good′) (flushed x)) (sym in-turn)
+          (first-flush P s s′ (Bodies-kept P good) (Bodies-kept P good′) tables selectors end (λ t l. c .table-shown t l) (λ q l. inl (in-from (selector-pages P) 0 q (omega arith) (omega arith)))
+            (writes-all-selectors P s s′ (Bodies-kept P good) (Bodies-kept P good′) follows tables (from 0 (selector-pages P)) None (after-all begun (each (table-write P s′) ts))
+              (each-from (selector-pages P) 0 (selector-pages P) (omega arith))
+              (writes-tables P s s′ (Bodies-kept P good) (Bodies-kept P good′) follows None ts (Table-shown P s′ begun) begun (c .turned) (record {
+                  working = working-after-all P s good before d (c .harmless) starts;
+                  tables-shown = λ t l h. h;
+                  selectors-shown = λ q l n. absurd n;
+                  bodies-shown = c .bodies-shown
+                }))))
+    where
+      begun : Device
+      begun = after-all d before
+      end : Device
+      end = after-all (after-all begun (each (table-write P s′) ts)) (each (selector-write P s′) (from 0 (selector-pages P)))
+      tables : ℕ → Type 0
+      tables t = In t ts ⊎ Table-shown P s′ begun t
+      selectors : ℕ → Type 0
+      selectors q = In q (from 0 (selector-pages P)) ⊎ None q
+      in-turn : after-all d writes ≡ end
+      in-turn =
+          after-all-append (before ++ each (table-write P s′) ts) (each (selector-write P s′) (from 0 (selector-pages P))) d
+          ∙ ap (λ x. after-all x (each (selector-write P s′) (from 0 (selector-pages P)))) (after-all-append before (each (table-write P s′) ts) d)
+
+  -- up to the first flush only what harms nothing has been done
+  early : (n : ℕ) (cs : List ℕ) → n + 2 ≤ length (change P s′ before ts header) → Counts P s good (stopped (after-all d (take n (change P s′ before ts header))) cs .pages)
+  unfolding writes
+  early n cs l =
+      subst (λ xs. Counts P s good (stopped (after-all d xs) cs .pages)) (sym (ap (take n) (sym (append-assoc writes (flush ∷ []) (write 0 header ∷ flush ∷ []))) ∙ take-append-le n (writes ++ flush ∷ []) (write 0 header ∷ flush ∷ []) short))
+          (working-stopped (Counts P s good) (after-all d (take n (writes ++ flush ∷ [])))
+            (working-after-all P s good (take n (writes ++ flush ∷ [])) d
+              (each-take (Harms-nothing P s good) n (writes ++ flush ∷ []) (each-append (Harms-nothing P s good) writes (flush ∷ []) writes-harmless (tt, tt))) starts) cs)
+    where
+      short : n ≤ length (writes ++ flush ∷ [])
+      short = omega (arith, l, length-append writes (flush ∷ []), length-append writes (flush ∷ write 0 header ∷ flush ∷ []))
+
+  between : (n : ℕ) (cs : List ℕ) → n + 1 ≡ length (change P s′ before ts header) →
+      Counts P s good (stopped (after-all d (take n (change P s′ before ts header))) cs .pages) ⊎ Counts P s′ good′ (stopped (after-all d (take n (change P s′ before ts header))) cs .pages)
+  unfolding writes after after-all
+  between n cs e =
+      subst (λ x. Counts P s good (stopped x cs .pages) ⊎ Counts P s′ good′ (stopped x cs .pages)) (sym (cut-behind writes (flush ∷ write 0 header ∷ []) (flush ∷ []) n d long))
+          (header-stopped P s s′ (Bodies-kept P good) (Bodies-kept P good′) follows (flushed (after-all d writes)) prepared header (c .header-right) (c .header-long) cs)
+    where
+      long : length (writes ++ flush ∷ write 0 header ∷ []) ≡ n
+      long = omega (arith, e, length-append writes (flush ∷ write 0 header ∷ []), length-append writes (flush ∷ write 0 header ∷ flush ∷ []))
+
+  late : (n : ℕ) (cs : List ℕ) → length (change P s′ before ts header) ≤ n → Counts P s′ good′ (stopped (after-all d (take n (change P s′ before ts header))) cs .pages)
+  unfolding writes after after-all
+  late n cs l =
+      subst (λ x. Counts P s′ good′ (stopped x cs .pages))
+          (sym (ap (after-all d) (take-all n (writes ++ flush ∷ write 0 header ∷ flush ∷ []) l) ∙ after-all-append writes (flush ∷ write 0 header ∷ flush ∷ []) d))
+          (working-stopped (Counts P s′ good′) (flushed (queued (flushed (after-all d writes)) 0 header))
+            (second-flush P s s′ (Bodies-kept P good) (Bodies-kept P good′) follows (flushed (after-all d writes)) prepared header (c .header-right)) cs)
+
+pub commit-atomic : Commit-atomic
+unfolding Commit-atomic
+commit-atomic P s s′ good good′ d before ts header c n cs = record {
+    early = early P s s′ good good′ d before ts header c n cs;
+    between = between P s s′ good good′ d before ts header c n cs;
+    late = late P s s′ good good′ d before ts header c n cs
+  }

@@ -26,8 +26,8 @@ left-keeps Φ [] ps cs h p = p
 left-keeps Φ (w ∷ ws) ps [] h p = p
 left-keeps Φ (w ∷ ws) ps (c ∷ cs) h p =
     left-keeps Φ ws (pick (eqb c 1) (set-page ps (w .at) (w .page)) (pick (eqb c 2) (set-page ps (w .at) (half (w .page) (page-at ps (w .at)))) ps)) cs (h .1)
-        (pick-either Φ (eqb c 1) (set-page ps (w .at) (w .page)) (pick (eqb c 2) (set-page ps (w .at) (half (w .page) (page-at ps (w .at)))) ps) (h .0 ps p .0)
-          (pick-either Φ (eqb c 2) (set-page ps (w .at) (half (w .page) (page-at ps (w .at)))) ps (h .0 ps p .1) p))
+    (pick-either Φ (eqb c 1) (set-page ps (w .at) (w .page)) (pick (eqb c 2) (set-page ps (w .at) (half (w .page) (page-at ps (w .at)))) ps) (h .0 ps p .0)
+    (pick-either Φ (eqb c 2) (set-page ps (w .at) (half (w .page) (page-at ps (w .at)))) ps (h .0 ps p .1) p))
 
 -- both of two properties
 abbrev pub Both : (List Page → Type 0) → (List Page → Type 0) → List Page → Type 0

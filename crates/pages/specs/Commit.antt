@@ -109,4 +109,4 @@ Commit-atomic =
     (P : ℕ) (s s′ : Image) (good good′ : ℕ → Page → Bool) (d : Device) (before : List Act) (ts : List ℕ) (header : Page) →
     Sound P s s′ good good′ d before ts header → (n : ℕ) (cs : List ℕ) →
     Cut (Counts P s good (stopped (after-all d (take n (change P s′ before ts header))) cs .pages))
-        (Counts P s′ good′ (stopped (after-all d (take n (change P s′ before ts header))) cs .pages)) (length (change P s′ before ts header)) n
+    (Counts P s′ good′ (stopped (after-all d (take n (change P s′ before ts header))) cs .pages)) (length (change P s′ before ts header)) n

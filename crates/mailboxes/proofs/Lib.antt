@@ -1,1 +1,4 @@
+pub mod Words
 pub mod Places
+pub mod Names
+pub mod People

@@ -2,3 +2,6 @@ pub mod Words
 pub mod Places
 pub mod Names
 pub mod People
+pub mod Records
+pub mod Changes
+pub mod Weight

@@ -72,6 +72,15 @@ those-alike p q zero from h = refl
 those-alike p q (suc k) from h =
     rw (h from (omega arith) (omega arith)) (ap (λ l. pick (q from) (from ∷ l) l) (those-alike p q k (suc from) (λ i a b. h i (omega arith) (omega arith))))
 
+pub each-those-alike : {A : Type 0} (f g : ℕ → A) (p q : ℕ → Bool) (k from : ℕ) → ((i : ℕ) → from ≤ i → i < from + k → (f i ≡ g i) × (p i ≡ q i)) →
+    each f (those p (count-up from k)) ≡ each g (those q (count-up from k))
+unfolding count-up
+each-those-alike f g p q zero from h = refl
+each-those-alike f g p q (suc k) from h =
+    let (e, t) = h from (omega arith) (omega arith) in
+    let rest = each-those-alike f g p q k (suc from) (λ i a b. h i (omega arith) (omega arith)) in
+    elim (cases-bool (q from)) [ inl y ↦ rw (t, y, e) (ap (λ l. g from ∷ l) rest) | inr y ↦ rw (t, y) rest ]
+
 -- the first place that passes
 pub first-any : (p : ℕ → Bool) (k from : ℕ) → isSome (first p from k) ≡ any p (count-up from k)
 unfolding count-up first

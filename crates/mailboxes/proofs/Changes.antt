@@ -14,7 +14,7 @@ use Rattle.model.specs.House.{Box, Person, a-name, person-at, set-person, with-
 use Rattle.model.specs.Promise.{master, first-house}
 use Rattle.pages.specs.Words.{part, patched}
 use Rattle.mailboxes.specs.Directory.{name-record, person-record, box-record, person-place, box-place, owner-at, name-at, count-up, owns, box-of, boxes-of, person-of, house-of, Sound, with-person, with-box, first-directory}
-use Rattle.mailboxes.proofs.Words.{length-patched, part-patched, part-patched-apart}
+use Rattle.pages.proofs.Words.{length-patched, part-patched, part-patched-before, part-patched-after}
 use Rattle.mailboxes.proofs.Places.{each-append, those-append, each-alike, each-those-alike, those-none, count-up-push}
 use Rattle.mailboxes.proofs.Names.{name-short, name-bytes, name-kept}
 use Rattle.mailboxes.proofs.Records.{length-person-record, length-box-record, person-front, box-front, box-of-record, owner-of-record, front-alike, owner-alike, name-alike, box-alike}
@@ -29,8 +29,8 @@ module _ (dir : List ℕ) (at : ℕ) (ws : List ℕ) (twelve : length ws ≡ 12)
   written = ap (part (patched dir at ws) at) (sym twelve) ∙ part-patched dir at ws (omega arith)
 
   unwritten : (b n : ℕ) → (b + n ≤ at) ⊎ (at + 12 ≤ b) → part (patched dir at ws) b n ≡ part dir b n
-  unwritten b n (inl l) = part-patched-apart dir at ws (omega arith) b n (inl l)
-  unwritten b n (inr l) = part-patched-apart dir at ws (omega arith) b n (inr (omega arith))
+  unwritten b n (inl l) = part-patched-before dir at ws b n (omega arith) l
+  unwritten b n (inr l) = part-patched-after dir at ws b n (omega arith) (omega arith)
 
 -- one box more behind those that are as they were
 module _ (boxes : ℕ) (dir dir′ : List ℕ) (o : ℕ) (nm : List ℕ) (named : a-name nm ≡ true)

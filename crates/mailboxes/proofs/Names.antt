@@ -14,7 +14,7 @@ use Rattle.model.specs.House.{a-name}
 use Rattle.model.specs.Device.{zeros}
 use Rattle.pages.specs.Words.{words-in, bytes-of, part}
 use Rattle.mailboxes.specs.Directory.{name-words, name-record, owner-at, name-at, named}
-use Rattle.mailboxes.proofs.Words.{every-append, bytes-of-words-in}
+use Rattle.pages.proofs.Words.{every-append, bytes-of-words-in}
 
 -- equal tests
 both-true : (a b : Bool) → (a ≡ true → b ≡ true) → (b ≡ true → a ≡ true) → a ≡ b

@@ -11,7 +11,7 @@ use Rattle.model.specs.House.{Box, box-row, new-one, a-name}
 use Rattle.model.specs.Device.{zeros}
 use Rattle.pages.specs.Words.{words-in, bytes-of, part}
 use Rattle.mailboxes.specs.Directory.{name-words, name-record, person-record, box-record, person-place, box-place, owner-at, name-at, box-of}
-use Rattle.mailboxes.proofs.Words.{length-words-in, getD-part, part-of-part}
+use Rattle.pages.proofs.Words.{length-words-in, getD-part, part-of-part}
 use Rattle.mailboxes.proofs.Names.{name-short, name-bytes, name-kept, owner-kept}
 
 pub length-name-words : (nm : List ℕ) → length (name-words nm) ≡ 8

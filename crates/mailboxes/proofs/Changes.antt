@@ -16,7 +16,7 @@ use Rattle.pages.specs.Words.{part, patched}
 use Rattle.mailboxes.specs.Directory.{name-record, person-record, box-record, person-place, box-place, owner-at, name-at, count-up, owns, box-of, boxes-of, person-of, house-of, Sound, with-person, with-box, first-directory}
 use Rattle.pages.proofs.Words.{length-patched, part-patched, part-patched-before, part-patched-after}
 use Rattle.mailboxes.proofs.Places.{each-append, those-append, each-alike, each-those-alike, those-none, count-up-push}
-use Rattle.mailboxes.proofs.Names.{name-short, name-bytes, name-kept}
+use Rattle.mailboxes.proofs.Names.{name-short, name-bytes, name-kept, owner-kept}
 use Rattle.mailboxes.proofs.Records.{length-person-record, length-box-record, person-front, box-front, box-of-record, owner-of-record, front-alike, owner-alike, name-alike, box-alike}
 use Rattle.mailboxes.proofs.People.{owner-there, person-there}
 
@@ -123,3 +123,149 @@ module _ (people boxes : ℕ) (dir : List ℕ) (nm : List ℕ) (few : people < 6
 
   with-person-person : (b : ℕ) → b < people → part (with-person people boxes dir nm) (person-place b) 12 ≡ part dir (person-place b) 12
   with-person-person b l = with-person-apart (person-place b) 12 (inl (omega arith)) (inl (omega arith))
+
+-- a person whose record is as it was, and whose boxes are
+person-alike : (boxes boxes′ : ℕ) (dir dir′ : List ℕ) (a : ℕ) → part dir′ (person-place a) 12 ≡ part dir (person-place a) 12 → boxes-of boxes′ dir′ a ≡ boxes-of boxes dir a →
+    person-of boxes′ dir′ a ≡ person-of boxes dir a
+unfolding person-of
+person-alike boxes boxes′ dir dir′ a e b = rw (name-alike dir dir′ (person-place a) e, b)
+
+module _ (people boxes : ℕ) (dir : List ℕ) (nm : List ℕ) (few : people < 64) (room : 864 + 12 * (boxes + 1) ≤ length dir) (named : a-name nm ≡ true) where
+  owners-there : Boxes-named people boxes dir → (i : ℕ) → i < boxes → owner-at dir (box-place i) < people
+  owners-there b i l =
+      let (a, n, there, ok, kept) = b i l in rw (owner-kept dir (box-place i) a n (name-short n ok) (name-bytes n ok) kept) there
+
+  person-before : Boxes-named people boxes dir → (a : ℕ) → a < people → person-of (suc boxes) (with-person people boxes dir nm) a ≡ person-of boxes dir a
+  person-before b a l =
+      person-alike boxes (suc boxes) dir (with-person people boxes dir nm) a (with-person-person people boxes dir nm few room a l)
+      (boxes-others boxes dir (with-person people boxes dir nm) people in-box refl (with-person-old people boxes dir nm few room) (with-person-box people boxes dir nm few room) a (λ e. omega arith))
+
+  person-new : Boxes-named people boxes dir → person-of (suc boxes) (with-person people boxes dir nm) people ≡ record { name = nm; boxes = at-first; rules = [] }
+  unfolding person-of
+  person-new b =
+      let kept = person-front (with-person people boxes dir nm) (person-place people) nm (with-person-new people boxes dir nm few room) in
+      rw
+      ( name-kept (with-person people boxes dir nm) (person-place people) 0 nm (name-short nm named) (name-bytes nm named) kept
+      , boxes-owner boxes dir (with-person people boxes dir nm) people in-box refl (with-person-old people boxes dir nm few room) (with-person-box people boxes dir nm few room)
+      , no-boxes people boxes dir (owners-there b)
+      )
+
+  house-with-person : (n : ℕ) → Boxes-named people boxes dir →
+      house-of n (suc people) (suc boxes) (with-person people boxes dir nm)
+      ≡ with-people (house-of n people boxes dir) ((house-of n people boxes dir .people) ++ record { name = nm; boxes = at-first; rules = [] } ∷ [])
+  unfolding house-of
+  house-with-person n b =
+      ap (with-people (house-of n people boxes dir))
+      (ap (each (person-of (suc boxes) (with-person people boxes dir nm))) (count-up-push people)
+      ∙ each-append (person-of (suc boxes) (with-person people boxes dir nm)) (count-up 0 people) (people ∷ [])
+      ∙ ap (λ l. l ++ person-of (suc boxes) (with-person people boxes dir nm) people ∷ [])
+        (each-alike (person-of (suc boxes) (with-person people boxes dir nm)) (person-of boxes dir) people 0 (λ a _ l. person-before b a (omega arith)))
+      ∙ ap (λ p. each (person-of boxes dir) (count-up 0 people) ++ p ∷ []) (person-new b))
+
+  sound-with-person : Persons-named people dir → Boxes-named people boxes dir → Sound (suc people) (suc boxes) (with-person people boxes dir nm)
+  sound-with-person p b = record
+      { somebody-there = omega arith
+      ; people-few = omega arith
+      ; boxes-fit = omega (arith, length-with-person people boxes dir nm few room)
+      ; person-named = λ a l. elim (cases-eq a people) [
+          | inl e ↦ (nm, named, rw e (person-front (with-person people boxes dir nm) (person-place people) nm (with-person-new people boxes dir nm few room)))
+          | inr e ↦
+            let l′ : a < people = omega arith in
+            let (n, ok, kept) = p a l′ in
+            (n, ok, front-alike dir (with-person people boxes dir nm) (person-place a) (with-person-person people boxes dir nm few room a l′) ∙ kept)
+        ]
+      ; box-named = λ i l. elim (cases-eq i boxes) [
+          | inl e ↦ (people, in-box, omega arith, refl, rw e (box-front (with-person people boxes dir nm) (box-place boxes) people in-box (with-person-box people boxes dir nm few room)))
+          | inr e ↦
+            let l′ : i < boxes = omega arith in
+            let (a, n, there, ok, kept) = b i l′ in
+            (a, n, omega arith, ok, front-alike dir (with-person people boxes dir nm) (box-place i) (with-person-old people boxes dir nm few room i l′) ∙ kept)
+        ]
+      }
+
+-- a new person in a sound directory
+module _ (people boxes : ℕ) (dir : List ℕ) (sound : Sound people boxes dir) (nm : List ℕ) (named : a-name nm ≡ true) (few : people < 64) (room : 864 + 12 * (boxes + 1) ≤ length dir) where
+  pub with-person-house : (n : ℕ) →
+      house-of n (suc people) (suc boxes) (with-person people boxes dir nm)
+      ≡ with-people (house-of n people boxes dir) ((house-of n people boxes dir .people) ++ record { name = nm; boxes = at-first; rules = [] } ∷ [])
+  with-person-house n = house-with-person people boxes dir nm few room named n (sound .box-named)
+
+  pub with-person-sound : Sound (suc people) (suc boxes) (with-person people boxes dir nm)
+  with-person-sound = sound-with-person people boxes dir nm few room named (sound .person-named) (sound .box-named)
+
+-- the first directory: the postmaster comes to nobody
+module _ (dir : List ℕ) (room : 876 ≤ length dir) where
+  pub first-directory-house : (n : ℕ) → house-of n 1 1 (first-directory dir) ≡ first-house n
+  unfolding first-directory house-of count-up
+  first-directory-house n = house-with-person 0 0 dir master (omega arith) room refl n (λ i l. absurd (omega arith))
+
+  pub first-directory-sound : Sound 1 1 (first-directory dir)
+  unfolding first-directory
+  first-directory-sound = sound-with-person 0 0 dir master (omega arith) room refl (λ a l. absurd (omega arith)) (λ i l. absurd (omega arith))
+
+  pub length-first-directory : length (first-directory dir) ≡ length dir
+  unfolding first-directory
+  length-first-directory = length-with-person 0 0 dir master (omega arith) room
+
+-- one person put in the place of another
+set-person-each : (f g : ℕ → Person) (k from a : ℕ) → a < k → ((j : ℕ) → from ≤ j → j < from + k → (j ≡ from + a → ⊥) → f j ≡ g j) →
+    set-person (each f (count-up from k)) a (g (from + a)) ≡ each g (count-up from k)
+unfolding set-person count-up
+set-person-each f g zero from a l h = absurd (omega arith)
+set-person-each f g (suc k) from zero l h =
+    let e : from + 0 ≡ from = omega arith in
+    rw e (ap (λ r. g from ∷ r) (each-alike f g k (suc from) (λ j a b. h j (omega arith) (omega arith) (λ q. omega arith))))
+set-person-each f g (suc k) from (suc a) l h =
+    let e : from + suc a ≡ suc from + a = omega arith in
+    rw (h from (omega arith) (omega arith) (λ q. omega arith), e)
+    (ap (λ r. g from ∷ r) (set-person-each f g k (suc from) a (omega arith) (λ j p q n. h j (omega arith) (omega arith) (λ z. n (omega arith)))))
+
+-- a new box in a sound directory
+module _ (people boxes : ℕ) (dir : List ℕ) (sound : Sound people boxes dir) (a : ℕ) (there : a < people) (nm : List ℕ) (named : a-name nm ≡ true) (room : 864 + 12 * (boxes + 1) ≤ length dir) where
+  person-other : (b : ℕ) → b < people → (b ≡ a → ⊥) → person-of (suc boxes) (with-box boxes dir a nm) b ≡ person-of boxes dir b
+  person-other b l n =
+      person-alike boxes (suc boxes) dir (with-box boxes dir a nm) b (with-box-person boxes dir a nm room b (omega (arith, sound .people-few)))
+      (boxes-others boxes dir (with-box boxes dir a nm) a nm named (with-box-old boxes dir a nm room) (with-box-new boxes dir a nm room) b (λ e. n (sym e)))
+
+  person-owner : person-of (suc boxes) (with-box boxes dir a nm) a ≡ with-boxes (person-of boxes dir a) (person-of boxes dir a .boxes ++ new-one nm ∷ [])
+  unfolding person-of
+  person-owner =
+      rw
+      ( name-alike dir (with-box boxes dir a nm) (person-place a) (with-box-person boxes dir a nm room a (omega (arith, sound .people-few)))
+      , boxes-owner boxes dir (with-box boxes dir a nm) a nm named (with-box-old boxes dir a nm room) (with-box-new boxes dir a nm room)
+      )
+
+  changed : (n : ℕ) →
+      house-of n people (suc boxes) (with-box boxes dir a nm)
+      ≡ with-people (house-of n people boxes dir) (set-person (house-of n people boxes dir .people) a (person-of (suc boxes) (with-box boxes dir a nm) a))
+  unfolding house-of
+  changed n =
+      let e : 0 + a ≡ a = omega arith in
+      ap (with-people (house-of n people boxes dir))
+      (sym (set-person-each (person-of boxes dir) (person-of (suc boxes) (with-box boxes dir a nm)) people 0 a there (λ b _ l ne. sym (person-other b (omega arith) (λ q. ne (omega arith)))))
+      ∙ ap (λ i. set-person (each (person-of boxes dir) (count-up 0 people)) a (person-of (suc boxes) (with-box boxes dir a nm) i)) e)
+
+  pub with-box-house : (n : ℕ) →
+      house-of n people (suc boxes) (with-box boxes dir a nm)
+      ≡ change-boxes (house-of n people boxes dir) a (person-at (house-of n people boxes dir .people) a .boxes ++ new-one nm ∷ [])
+  with-box-house n =
+      changed n
+      ∙ ap (λ p. with-people (house-of n people boxes dir) (set-person (house-of n people boxes dir .people) a p))
+        (person-owner ∙ sym (ap (λ p. with-boxes p (p .boxes ++ new-one nm ∷ [])) (person-there n people boxes dir a there)))
+
+  pub with-box-sound : Sound people (suc boxes) (with-box boxes dir a nm)
+  with-box-sound = record
+      { somebody-there = sound .somebody-there
+      ; people-few = sound .people-few
+      ; boxes-fit = omega (arith, length-with-box boxes dir a nm room)
+      ; person-named = λ b l.
+          let (n, ok, kept) = sound .person-named b l in
+          (n, ok, front-alike dir (with-box boxes dir a nm) (person-place b) (with-box-person boxes dir a nm room b (omega (arith, sound .people-few))) ∙ kept)
+      ; box-named = λ i l. elim (cases-eq i boxes) [
+          | inl e ↦ (a, nm, there, named, rw e (box-front (with-box boxes dir a nm) (box-place boxes) a nm (with-box-new boxes dir a nm room)))
+          | inr e ↦
+            let l′ : i < boxes = omega arith in
+            let (b, n, here, ok, kept) = sound .box-named i l′ in
+            (b, n, here, ok, front-alike dir (with-box boxes dir a nm) (box-place i) (with-box-old boxes dir a nm room i l′) ∙ kept)
+        ]
+      }

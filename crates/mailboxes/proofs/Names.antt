@@ -14,7 +14,7 @@ use Rattle.model.specs.House.{a-name}
 use Rattle.model.specs.Device.{zeros}
 use Rattle.pages.specs.Words.{words-in, bytes-of, part}
 use Rattle.mailboxes.specs.Directory.{name-words, name-record, owner-at, name-at, named}
-use Rattle.pages.proofs.Words.{every-append, bytes-of-words-in}
+use Rattle.pages.proofs.Words.{every-append, bytes-of-words-in, length-zeros}
 
 -- equal tests
 both-true : (a b : Bool) → (a ≡ true → b ≡ true) → (b ≡ true → a ≡ true) → a ≡ b
@@ -37,11 +37,6 @@ same-equal (x ∷ xs) (y ∷ ys) e =
     let head : x ≡ y = eqb-true x y (both .0) in
     let tail : xs ≡ ys = same-equal xs ys (both .1) in
     cc
-
-pub length-zeros : (n : ℕ) → length (zeros n) ≡ n
-unfolding zeros
-length-zeros zero = refl
-length-zeros (suc n) = ap suc (length-zeros n)
 
 all-bytes-zeros : (n : ℕ) → all-bytes (zeros n) ≡ true
 unfolding zeros

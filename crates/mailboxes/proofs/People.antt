@@ -65,3 +65,7 @@ module _ (n people boxes : ℕ) (dir : List ℕ) where
   pub person-there : (a : ℕ) → a < people → person-at (house-of n people boxes dir .people) a ≡ person-of boxes dir a
   unfolding house-of
   person-there a l = person-at-each (person-of boxes dir) people 0 a l ∙ ap (person-of boxes dir) (omega arith)
+
+  pub boxes-there : (a : ℕ) → a < people → person-at (house-of n people boxes dir .people) a .boxes ≡ boxes-of boxes dir a
+  unfolding person-of
+  boxes-there a l = ap (λ p. p .boxes) (person-there a l)

@@ -3,21 +3,22 @@ use mathlib.Core.Path.{_≡_, refl, sym, ap, _∙_}
 use mathlib.Core.Bool.{Bool, true, false}
 use mathlib.Core.List.{List, [], _∷_, _++_}
 use mathlib.Core.Logic.{_⊎_, inl, inr}
-use Prim.Native.Nat.{ℕ, zero, suc, _+_, _*_, _-_, _/_, _%_, _≤_, _<_}
+use Prim.Native.Nat.{ℕ, zero, suc, _+_, _*_, _-_, _/_, _%_, _^_, _≤_, _<_}
 use native.Mathlib.Omega.{arith}
 use lib.Dec.{eqb}
 use lib.ListN.{length, getD}
-use Rattle.std.proofs.shelf.Tests.{cases-bool, cases-eq, eq-eqb, ne-eqb}
+use Rattle.std.proofs.shelf.Tests.{cases-bool, cases-eq, cases-lt, eq-eqb, ne-eqb}
 use Rattle.std.proofs.shelf.Lists.{append-nil}
 use Rattle.model.specs.Mail.{pick, each, those, in-box}
 use Rattle.model.specs.House.{Box, Person, a-name, person-at, set-person, with-people, with-boxes, change-boxes, new-one, at-first}
+use Rattle.model.specs.Run.{all-small}
 use Rattle.model.specs.Promise.{master, first-house}
 use Rattle.pages.specs.Words.{part, patched}
 use Rattle.mailboxes.specs.Directory.{name-record, person-record, box-record, person-place, box-place, owner-at, name-at, count-up, owns, box-of, boxes-of, person-of, house-of, Sound, with-person, with-box, first-directory}
-use Rattle.pages.proofs.Words.{length-patched, part-patched, part-patched-before, part-patched-after}
+use Rattle.pages.proofs.Words.{length-patched, part-patched, part-patched-before, part-patched-after, all-small-patched}
 use Rattle.mailboxes.proofs.Places.{each-append, those-append, each-alike, each-those-alike, those-none, count-up-push}
 use Rattle.mailboxes.proofs.Names.{name-short, name-bytes, name-kept, owner-kept}
-use Rattle.mailboxes.proofs.Records.{length-person-record, length-box-record, person-front, box-front, box-of-record, owner-of-record, front-alike, owner-alike, name-alike, box-alike}
+use Rattle.mailboxes.proofs.Records.{length-person-record, length-box-record, all-small-person-record, all-small-box-record, person-front, box-front, box-of-record, owner-of-record, front-alike, owner-alike, name-alike, box-alike}
 use Rattle.mailboxes.proofs.People.{owner-there, person-there}
 
 -- a record of 12 words written over others: it stands there, and what lies apart is as it was
@@ -269,3 +270,38 @@ module _ (people boxes : ℕ) (dir : List ℕ) (sound : Sound people boxes dir) 
             (b, n, here, ok, front-alike dir (with-box boxes dir a nm) (box-place i) (with-box-old boxes dir a nm room i l′) ∙ kept)
         ]
       }
+
+-- numbers stay below 2^64
+pub all-small-with-box : (boxes : ℕ) (dir : List ℕ) (a : ℕ) (nm : List ℕ) → all-small dir ≡ true → a < 2 ^ 32 → a-name nm ≡ true → all-small (with-box boxes dir a nm) ≡ true
+unfolding with-box
+all-small-with-box boxes dir a nm s l h = all-small-patched dir (box-place boxes) (box-record a nm) s (all-small-box-record a nm l h)
+
+pub all-small-with-person : (people boxes : ℕ) (dir : List ℕ) (nm : List ℕ) → all-small dir ≡ true → people < 2 ^ 32 → a-name nm ≡ true →
+    all-small (with-person people boxes dir nm) ≡ true
+unfolding with-person
+all-small-with-person people boxes dir nm s l h =
+    all-small-patched (patched dir (person-place people) (person-record nm)) (box-place boxes) (box-record people in-box)
+    (all-small-patched dir (person-place people) (person-record nm) s (all-small-person-record nm h))
+    (all-small-box-record people in-box l refl)
+
+pub all-small-first-directory : (dir : List ℕ) → all-small dir ≡ true → all-small (first-directory dir) ≡ true
+unfolding first-directory
+all-small-first-directory dir s = all-small-with-person 0 0 dir master s (omega arith) refl
+
+-- a record lies on the page of its first word and on that of its last, and on no other
+page-apart : (t at : ℕ) → (t ≡ at / 64 → ⊥) → (t ≡ (at + 11) / 64 → ⊥) → (64 * t + 64 ≤ at) ⊎ (at + 12 ≤ 64 * t)
+page-apart t at p q =
+    elim (cases-lt t (at / 64)) [
+      | inl l ↦ inl (omega arith)
+      | inr l ↦ inr (let m : at / 64 < t = omega arith in omega arith)
+    ]
+
+pub with-box-page : (boxes : ℕ) (dir : List ℕ) (a : ℕ) (nm : List ℕ) → 864 + 12 * (boxes + 1) ≤ length dir →
+    (t : ℕ) → (t ≡ box-place boxes / 64 → ⊥) → (t ≡ (box-place boxes + 11) / 64 → ⊥) → part (with-box boxes dir a nm) (64 * t) 64 ≡ part dir (64 * t) 64
+with-box-page boxes dir a nm room t p q = with-box-apart boxes dir a nm room (64 * t) 64 (page-apart t (box-place boxes) p q)
+
+pub with-person-page : (people boxes : ℕ) (dir : List ℕ) (nm : List ℕ) → people < 64 → 864 + 12 * (boxes + 1) ≤ length dir →
+    (t : ℕ) → (t ≡ box-place boxes / 64 → ⊥) → (t ≡ (box-place boxes + 11) / 64 → ⊥) → (t ≡ person-place people / 64 → ⊥) → (t ≡ (person-place people + 11) / 64 → ⊥) →
+    part (with-person people boxes dir nm) (64 * t) 64 ≡ part dir (64 * t) 64
+with-person-page people boxes dir nm few room t p q r s =
+    with-person-apart people boxes dir nm few room (64 * t) 64 (page-apart t (box-place boxes) p q) (page-apart t (person-place people) r s)

@@ -38,7 +38,7 @@ same-equal (x ∷ xs) (y ∷ ys) e =
     let tail : xs ≡ ys = same-equal xs ys (both .1) in
     cc
 
-all-bytes-zeros : (n : ℕ) → all-bytes (zeros n) ≡ true
+pub all-bytes-zeros : (n : ℕ) → all-bytes (zeros n) ≡ true
 unfolding zeros
 all-bytes-zeros zero = refl
 all-bytes-zeros (suc n) = all-bytes-zeros n

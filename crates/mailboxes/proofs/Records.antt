@@ -2,17 +2,19 @@
 use mathlib.Core.Path.{_≡_, refl, sym, ap, _∙_}
 use mathlib.Core.Bool.{Bool, true, false}
 use mathlib.Core.List.{List, [], _∷_, _++_}
-use Prim.Native.Nat.{ℕ, zero, suc, _+_, _*_, _-_, _/_, _%_, _≤_, _<_}
+use Prim.Native.Nat.{ℕ, zero, suc, _+_, _*_, _-_, _/_, _%_, _^_, _≤_, _<_}
 use native.Mathlib.Omega.{arith}
-use lib.ListN.{length, getD, take, drop, length-append}
+use lib.Dec.{ltb}
+use lib.ListN.{length, getD, take, drop, length-append, length-take}
 use Rattle.std.proofs.shelf.Lists.{take-at, take-take, getD-at}
 use Rattle.model.specs.Mail.{all-bytes, with-length, eight}
 use Rattle.model.specs.House.{Box, box-row, new-one, a-name}
 use Rattle.model.specs.Device.{zeros}
+use Rattle.model.specs.Run.{all-small}
 use Rattle.pages.specs.Words.{words-in, bytes-of, part}
 use Rattle.mailboxes.specs.Directory.{name-words, name-record, person-record, box-record, person-place, box-place, owner-at, name-at, box-of}
-use Rattle.pages.proofs.Words.{length-words-in, getD-part, part-of-part}
-use Rattle.mailboxes.proofs.Names.{name-short, name-bytes, name-kept, owner-kept}
+use Rattle.pages.proofs.Words.{every-append, length-eight, length-bytes-of, length-words-in, getD-part, part-of-part, all-small-cons, all-small-append, all-small-words-in}
+use Rattle.mailboxes.proofs.Names.{all-bytes-zeros, name-short, name-bytes, name-kept, owner-kept}
 
 pub length-name-words : (nm : List ℕ) → length (name-words nm) ≡ 8
 unfolding name-words
@@ -90,3 +92,45 @@ pub box-row-of : (dir : List ℕ) (i : ℕ) → box-row (box-of dir i) ≡ with-
 unfolding box-of
 box-row-of dir i = refl
 
+pub length-name-at : (dir : List ℕ) (at : ℕ) → length (name-at dir at) ≤ 64
+unfolding name-at
+length-name-at dir at =
+    omega
+    ( arith
+    , length-take (getD dir at 0 % 256) (bytes-of (part dir (at + 1) 8))
+    , length-bytes-of (part dir (at + 1) 8)
+    , length-take 8 (drop (at + 1) dir)
+    )
+
+pub length-box-row : (dir : List ℕ) (i : ℕ) → length (box-row (box-of dir i)) ≡ 8 + length (name-at dir (box-place i)) + 16
+unfolding box-of
+length-box-row dir i =
+    let nm = name-at dir (box-place i) in
+    let next = getD dir (box-place i + 9) 0 in
+    omega
+    ( arith
+    , length-append (with-length nm ++ eight next) (eight 0)
+    , length-append (with-length nm) (eight next)
+    , length-append (eight (length nm)) nm
+    , length-eight (length nm)
+    , length-eight next
+    , length-eight 0
+    )
+
+pub box-row-short : (dir : List ℕ) (i : ℕ) → length (box-row (box-of dir i)) ≤ 88
+box-row-short dir i = omega (arith, length-box-row dir i, length-name-at dir (box-place i))
+
+-- words of records fit 64 bits
+all-small-name-record : (o : ℕ) (nm : List ℕ) → o < 2 ^ 32 → a-name nm ≡ true → all-small (name-record o nm) ≡ true
+unfolding name-words
+all-small-name-record o nm l h =
+    all-small-cons (256 * o + length nm) (name-words nm) (omega (arith, name-short nm h))
+    (all-small-words-in 8 (nm ++ zeros (64 - length nm)) (every-append (λ b. ltb b 256) nm (zeros (64 - length nm)) (name-bytes nm h) (all-bytes-zeros (64 - length nm))))
+
+pub all-small-person-record : (nm : List ℕ) → a-name nm ≡ true → all-small (person-record nm) ≡ true
+unfolding person-record all-small
+all-small-person-record nm h = all-small-append (name-record 0 nm) (0 ∷ 0 ∷ 0 ∷ []) (all-small-name-record 0 nm (omega arith) h) refl
+
+pub all-small-box-record : (o : ℕ) (nm : List ℕ) → o < 2 ^ 32 → a-name nm ≡ true → all-small (box-record o nm) ≡ true
+unfolding box-record all-small
+all-small-box-record o nm l h = all-small-append (name-record o nm) (1 ∷ 0 ∷ 0 ∷ []) (all-small-name-record o nm l h) refl

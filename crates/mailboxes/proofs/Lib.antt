@@ -2,6 +2,7 @@ pub mod Places
 pub mod Names
 pub mod Compare
 pub mod Writes
+pub mod Room
 pub mod People
 pub mod Records
 pub mod Changes

@@ -1,12 +1,13 @@
 -- Words written one behind another are one patch.
 use mathlib.Core.Path.{_≡_, refl, sym, ap, _∙_}
 use mathlib.Core.List.{List, [], _∷_, _++_, append-assoc}
-use Prim.Native.Nat.{ℕ, _+_, _≤_, _<_}
+use Prim.Native.Nat.{ℕ, _+_, _-_, _≤_, _<_}
 use native.Mathlib.Omega.{arith}
 use lib.ListN.{length, getD, set, take, drop, length-append}
 use Rattle.std.proofs.shelf.Lists.{take-all, take-more, length-take-le}
+use borrow.Rule.Slice.PartMut.{putMid}
 use Rattle.pages.specs.Words.{patched}
-use Rattle.pages.proofs.Words.{length-patched, set-is-patched, patched-next, patched-all}
+use Rattle.pages.proofs.Words.{length-patched, set-is-patched, patched-next, patched-all, patched-is-putMid}
 
 pub set-next : (xs : List ℕ) (at : ℕ) (vs : List ℕ) (i w : ℕ) → at + length vs ≡ i → i < length xs → set (patched xs at vs) i w ≡ patched xs at (vs ++ w ∷ [])
 set-next xs at vs i w e l =
@@ -29,3 +30,7 @@ record-written out head next ws l m =
     ∙ set-next out 0 ((head ∷ ws) ++ next ∷ [] ++ 0 ∷ []) 11 0 (omega (arith, length-append ((head ∷ ws) ++ next ∷ []) (0 ∷ []), length-append (head ∷ ws) (next ∷ []))) (omega arith)
     ∙ ap (patched out 0) (append-assoc ((head ∷ ws) ++ next ∷ []) (0 ∷ []) (0 ∷ []) ∙ append-assoc (head ∷ ws) (next ∷ []) (0 ∷ 0 ∷ []))
     ∙ patched-all out ((head ∷ ws) ++ next ∷ 0 ∷ 0 ∷ []) (omega (arith, length-append (head ∷ ws) (next ∷ 0 ∷ 0 ∷ [])))
+
+-- a record lent to be written is a patch of all the words
+pub record-put : (words : List ℕ) (at : ℕ) (out ws : List ℕ) → out ≡ ws → length ws ≡ 12 → putMid at (at + 12 - at) words out ≡ patched words at ws
+record-put words at out ws e l = ap (putMid at (at + 12 - at) words) e ∙ patched-is-putMid words at (at + 12) ws (omega arith)

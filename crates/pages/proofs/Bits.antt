@@ -6,12 +6,13 @@ use mathlib.Core.Logic.{inl, inr, _≢_}
 use Prim.Native.Nat.{ℕ, zero, suc, _+_, _*_, _-_, _/_, _%_, _^_, _≤_, _<_}
 use native.Mathlib.Omega.{arith}
 use native.Mathlib.Nat.{one-mul, zero-div}
+use lib.Bits.{bitXor, xor-add-and, xor-block, xor-zero-r}
 use lib.Dec.{eqb}
 use lib.ListN.{length, getD, set, length-set}
 use lib.Seq.{getD-set-same, getD-set-other, set-out}
 use Rattle.std.proofs.shelf.Lists.{getD-past}
 use Rattle.std.proofs.shelf.Tests.{cases-lt, cases-eq, eq-eqb, ne-eqb}
-use Rattle.std.proofs.shelf.Bits.{pow-pos, pow-add, shr-shr, shr-high, div-add-mod', mod-below, le-div}
+use Rattle.std.proofs.shelf.Bits.{and-mask, pow-pos, pow-add, shr-shr, shr-high, div-add-mod', mod-below, le-div}
 use Rattle.model.specs.Mail.{pick}
 use Rattle.model.specs.Device.{zeros}
 use Rattle.model.specs.Run.{all-small}
@@ -116,6 +117,31 @@ word-bit-flipped-other w k j n =
 
 pub word-flipped-small : (w k : ℕ) → k < 64 → w < 2 ^ 64 → word-flipped w k < 2 ^ 64
 word-flipped-small w k h l = omega (arith, above w k 64 h)
+
+-- in machine words a flip is an exclusive or with the bit's unit
+xor-one : (q : ℕ) → bitXor q 1 + (q % 2) * 2 ≡ q + 1
+xor-one q = ap (λ b. bitXor q 1 + b * 2) (sym (and-mask q 1)) ∙ xor-add-and q 1
+
+xor-unit : (w k : ℕ) → bitXor w (2 ^ k) ≡ bitXor (high w k) 1 * 2 ^ k + w % 2 ^ k
+xor-unit w k =
+    let unit : 2 ^ k ≡ 1 * 2 ^ k + 0 = omega arith in
+    ap (λ v. bitXor v (2 ^ k)) (split w k)
+    ∙ ap (bitXor (high w k * 2 ^ k + w % 2 ^ k)) unit
+    ∙ xor-block k (high w k) 1 (w % 2 ^ k) 0 (low-lt w k) (pow-pos k)
+    ∙ ap (λ r. bitXor (high w k) 1 * 2 ^ k + r) (xor-zero-r (w % 2 ^ k))
+
+pub xor-is-flipped : (w k : ℕ) → bitXor w (2 ^ k) ≡ word-flipped w k
+xor-is-flipped w k =
+    elim (cases-eq (high w k % 2) 0) [
+      inl h ↦
+        let e : bitXor (high w k) 1 ≡ high w k + 1 = omega (arith, xor-one (high w k)) in
+        xor-unit w k ∙ ap (λ q. q * 2 ^ k + w % 2 ^ k) e ∙ omega (arith, split w k) ∙ sym (flipped-even w k h)
+    | inr h ↦
+        let rest : ℕ = bitXor (high w k) 1 in
+        let e : high w k ≡ rest + 1 = omega (arith, xor-one (high w k)) in
+        let f : high w k * 2 ^ k ≡ (rest + 1) * 2 ^ k = ap (λ q. q * 2 ^ k) e in
+        let g : rest * 2 ^ k + w % 2 ^ k ≡ w - 1 * 2 ^ k = omega (arith, split w k) in
+        xor-unit w k ∙ g ∙ sym (flipped-odd w k h) ]
 
 -- bits of a row of words
 

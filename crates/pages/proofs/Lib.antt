@@ -1,3 +1,4 @@
 pub mod Words
 pub mod Bits
 pub mod Geometry
+pub mod Touched

@@ -11,7 +11,7 @@ use lib.ListN.{length, getD, set, take, drop, length-append, length-take, length
 use native.Mathlib.Numerals.{add-one}
 use lib.Seq.{take-append-le, drop-append-le, take-append-seam, take-all, take-take, take-add, drop-at, drop-drop, getD-take, getD-drop, length-take-le, set-split}
 use borrow.Rule.Slice.PartMut.{putMid}
-use Rattle.std.proofs.shelf.Lists.{nil-from-length, drop-all, drop-take, getD-append-left}
+use Rattle.std.proofs.shelf.Lists.{nil-from-length, drop-all, drop-more, drop-take, getD-append-left}
 use Rattle.std.proofs.shelf.Parts.{between-is, drop-putMid, take-putMid, take-putMid-below}
 use Rattle.std.proofs.shelf.Tests.{ltb-true, lt-ltb, eq-eqb, and-parts, and-from}
 use Rattle.model.specs.Mail.{every, flat, in-bytes, eight, all-bytes}
@@ -104,6 +104,66 @@ in-bytes-bytes : (k n : ℕ) (bs : List ℕ) → all-bytes bs ≡ true → all-b
 unfolding in-bytes
 in-bytes-bytes zero n bs h = h
 in-bytes-bytes (suc k) n bs h = in-bytes-bytes k (n / 256) (n % 256 ∷ bs) (and-from (ltb (n % 256) 256) (all-bytes bs) (lt-ltb (n % 256) 256 (omega arith)) h)
+
+-- the bytes by their weights, and the word by them
+pub eight-is : (w : ℕ) →
+    eight w
+    ≡ w / 72057594037927936 % 256
+    ∷ w / 281474976710656 % 256
+    ∷ w / 1099511627776 % 256
+    ∷ w / 4294967296 % 256
+    ∷ w / 16777216 % 256
+    ∷ w / 65536 % 256
+    ∷ w / 256 % 256
+    ∷ w % 256
+    ∷ []
+unfolding in-bytes
+eight-is w =
+    let e₂ : w / 256 / 256 ≡ w / 65536 = omega arith in
+    let e₃ : w / 65536 / 256 ≡ w / 16777216 = omega arith in
+    let e₄ : w / 16777216 / 256 ≡ w / 4294967296 = omega arith in
+    let e₅ : w / 4294967296 / 256 ≡ w / 1099511627776 = omega arith in
+    let e₆ : w / 1099511627776 / 256 ≡ w / 281474976710656 = omega arith in
+    let e₇ : w / 281474976710656 / 256 ≡ w / 72057594037927936 = omega arith in
+    rw (e₂, e₃, e₄, e₅, e₆, e₇)
+
+next-at : (k at next : ℕ) (bs : List ℕ) → at < length bs → at + 1 ≡ next → take (suc k) (drop at bs) ≡ getD bs at 0 ∷ take k (drop next bs)
+next-at k at next bs h e = rw (← e, drop-more bs at 0 h)
+
+eight-at : (bs : List ℕ) (at : ℕ) → at + 8 ≤ length bs →
+    take 8 (drop at bs)
+    ≡ getD bs at 0
+    ∷ getD bs (at + 1) 0
+    ∷ getD bs (at + 2) 0
+    ∷ getD bs (at + 3) 0
+    ∷ getD bs (at + 4) 0
+    ∷ getD bs (at + 5) 0
+    ∷ getD bs (at + 6) 0
+    ∷ getD bs (at + 7) 0
+    ∷ []
+eight-at bs at h =
+    rw
+    (next-at 7 at (at + 1) bs (omega arith) refl,
+    next-at 6 (at + 1) (at + 2) bs (omega arith) (omega arith),
+    next-at 5 (at + 2) (at + 3) bs (omega arith) (omega arith),
+    next-at 4 (at + 3) (at + 4) bs (omega arith) (omega arith),
+    next-at 3 (at + 4) (at + 5) bs (omega arith) (omega arith),
+    next-at 2 (at + 5) (at + 6) bs (omega arith) (omega arith),
+    next-at 1 (at + 6) (at + 7) bs (omega arith) (omega arith),
+    next-at 0 (at + 7) (at + 8) bs (omega arith) (omega arith))
+
+pub word-at-is : (bs : List ℕ) (at : ℕ) → at + 8 ≤ length bs →
+    getD bs at 0 * 72057594037927936
+    + getD bs (at + 1) 0 * 281474976710656
+    + getD bs (at + 2) 0 * 1099511627776
+    + getD bs (at + 3) 0 * 4294967296
+    + getD bs (at + 4) 0 * 16777216
+    + getD bs (at + 5) 0 * 65536
+    + getD bs (at + 6) 0 * 256
+    + getD bs (at + 7) 0
+    ≡ from-bytes 0 (take 8 (drop at bs))
+unfolding from-bytes
+word-at-is bs at h = rw (eight-at bs at h) (omega arith)
 
 pub all-bytes-eight : (w : ℕ) → all-bytes (eight w) ≡ true
 all-bytes-eight w = in-bytes-bytes 8 w [] refl
@@ -233,6 +293,15 @@ all-small-words-in (suc n) bs h =
     (words-in n (drop 8 bs))
     (word-small (take 8 bs) (omega (arith, length-take 8 bs)) (every-take (λ b. ltb b 256) 8 bs h))
     (all-small-words-in n (drop 8 bs) (every-drop (λ b. ltb b 256) 8 bs h))
+
+-- one word more, at the end
+pub words-in-push : (n : ℕ) (bs : List ℕ) → words-in (n + 1) bs ≡ words-in n bs ++ from-bytes 0 (take 8 (drop (8 * n) bs)) ∷ []
+unfolding words-in
+words-in-push n bs = words-in-more n 1 bs
+
+pub bytes-of-push : (ws : List ℕ) (w : ℕ) → bytes-of (ws ++ w ∷ []) ≡ bytes-of ws ++ eight w
+unfolding bytes-of
+bytes-of-push ws w = bytes-of-append ws (w ∷ []) ∙ ap (λ r. bytes-of ws ++ r) (append-nil (eight w))
 
 -- zeros
 

@@ -14,7 +14,7 @@ use Rattle.model.specs.Device.{zeros}
 use Rattle.model.specs.Promise.{from-bytes}
 use Rattle.pages.specs.Words.{words-in, part}
 use Rattle.pages.proofs.Words.{length-zeros, getD-zeros, getD-part, length-part}
-use Rattle.mailboxes.specs.Directory.{name-words, named}
+use Rattle.mailboxes.specs.Directory.{name-words, named, owner-at, owns, box-place}
 use Rattle.mailboxes.proofs.Records.{length-name-words}
 
 -- a word from eight bytes, the highest first
@@ -94,3 +94,11 @@ module _ (dir : List ℕ) (at : ℕ) (nm : List ℕ) (fits : at + 9 ≤ length d
 
   pub words-end : (i : ℕ) → 8 ≤ i → same (drop i (part dir (at + 1) 8)) (drop i (name-words nm)) ≡ true
   words-end i l = same-end (part dir (at + 1) 8) (name-words nm) i (omega (arith, length-part dir (at + 1) 8 (omega arith))) (omega (arith, length-name-words nm))
+
+-- an owner that was read, and asked for
+module _ (dir : List ℕ) (a i at o : ℕ) (place : at ≡ box-place i) (read : o ≡ owner-at dir at) where
+  pub owns-yes : o ≡ a → owns dir a i ≡ true
+  owns-yes e = eq-eqb (owner-at dir (box-place i)) a (ap (owner-at dir) (sym place) ∙ sym read ∙ e)
+
+  pub owns-no : (o ≡ a → ⊥) → owns dir a i ≡ false
+  owns-no n = ne-eqb (owner-at dir (box-place i)) a (λ e. n (read ∙ ap (owner-at dir) place ∙ e))

@@ -3,7 +3,7 @@ ghost use mathlib.Core.Path.{_≡_};
 ghost use mathlib.Core.List.{[], _∷_, _++_};
 ghost use Prim.Native.Nat.{_+_, _<_, _≤_};
 ghost use lib.ListN.{length, getD};
-ghost use Rattle.mailboxes.specs.Directory.{name-words, name-record, named};
+ghost use Rattle.mailboxes.specs.Directory.{name-words, name-record, named, owner-at};
 
 // A name has at most this many bytes.
 pub(crate) const NAME_BYTES: usize = 64;
@@ -37,6 +37,14 @@ fn name_word(name: &[u8], i: usize) -> u64
         padded_byte(name, start + 6),
         padded_byte(name, start + 7),
     ])
+}
+
+// Who owns the record at a place.
+pub(crate) fn owner_at(words: &[u64], at: usize) -> u64
+    requires { ⌜ at < length (now words) ⌝ }
+    ensures { λ r. ⌜ r ≡ owner-at (now (words .entry)) at ⌝ }
+{
+    words[at] / OWNER_STEP
 }
 
 // Whether the record at a place has this name.

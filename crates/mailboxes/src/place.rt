@@ -1,7 +1,8 @@
 // Where records lie: people first, and the boxes behind them and the ways.
 ghost use mathlib.Core.Path.{_≡_};
-ghost use Prim.Native.Nat.{_+_, _*_, _-_, _/_, _<_, _≤_, _^_};
+ghost use Prim.Native.Nat.{_<_, _^_};
 ghost use Rattle.mailboxes.specs.Directory.{person-place, box-place};
+ghost use Rattle.mailboxes.specs.Room.{people-room, box-room};
 
 pub const RECORD_WORDS: usize = 12;
 
@@ -27,9 +28,16 @@ pub(crate) fn box_place(index: u64) -> usize
     BOXES_PLACE + RECORD_WORDS * index as usize
 }
 
+// How many people so many words have room for.
+pub(crate) fn people_room(words: usize) -> u64
+    ensures { λ r. ⌜ r ≡ people-room words ⌝ }
+{
+    MOST_PEOPLE.min((words / RECORD_WORDS) as u64)
+}
+
 // How many boxes so many words have room for.
 pub(crate) fn box_room(words: usize) -> u64
-    ensures { λ r. ⌜ r ≡ (words - 864) / 12 ⌝ }
+    ensures { λ r. ⌜ r ≡ box-room words ⌝ }
 {
     (words.saturating_sub(BOXES_PLACE) / RECORD_WORDS) as u64
 }

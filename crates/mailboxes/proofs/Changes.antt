@@ -305,3 +305,8 @@ pub with-person-page : (people boxes : ℕ) (dir : List ℕ) (nm : List ℕ) →
     part (with-person people boxes dir nm) (64 * t) 64 ≡ part dir (64 * t) 64
 with-person-page people boxes dir nm few room t p q r s =
     with-person-apart people boxes dir nm few room (64 * t) 64 (page-apart t (box-place boxes) p q) (page-apart t (person-place people) r s)
+
+-- the first directory changes its first page and the one where boxes begin
+pub first-directory-page : (dir : List ℕ) → 876 ≤ length dir → (t : ℕ) → (t ≡ 0 → ⊥) → (t ≡ 13 → ⊥) → part (first-directory dir) (64 * t) 64 ≡ part dir (64 * t) 64
+unfolding first-directory
+first-directory-page dir room t p q = with-person-page 0 0 dir master (omega arith) room t q q p p

@@ -2,13 +2,14 @@
 use mathlib.Core.Path.{_≡_, refl, sym, ap, _∙_}
 use mathlib.Core.Bool.{Bool, true, false, _&&_}
 use mathlib.Core.List.{List, [], _∷_, _++_}
-use Prim.Native.Nat.{ℕ, zero, suc, _+_, _*_, _-_, _≤_, _<_}
+use Prim.Native.Nat.{ℕ, zero, suc, _+_, _*_, _-_, _≤_, _<_, min}
 use native.Mathlib.Omega.{arith}
 use lib.ListN.{length}
 use Rattle.std.specs.Options.{isSome}
 use Rattle.model.specs.Mail.{any, each, those, same}
 use Rattle.model.specs.House.{Box, Person, a-name, has-box, person-at}
 use Rattle.mailboxes.specs.Directory.{person-place, box-place, name-at, named, owner-at, count-up, owns, find-person, find-box, count-boxes, box-of, boxes-of, person-of, house-of, Sound}
+use Rattle.mailboxes.specs.Room.{people-room, box-room}
 use Rattle.mailboxes.proofs.Places.{length-each, any-each, any-those, any-alike, length-count-up, first-any}
 use Rattle.mailboxes.proofs.Names.{name-short, name-bytes, name-kept, named-kept, owner-kept}
 
@@ -69,3 +70,10 @@ module _ (n people boxes : ℕ) (dir : List ℕ) where
   pub boxes-there : (a : ℕ) → a < people → person-at (house-of n people boxes dir .people) a .boxes ≡ boxes-of boxes dir a
   unfolding person-of
   boxes-there a l = ap (λ p. p .boxes) (person-there a l)
+
+-- the counts of a sound directory are within the words' room
+pub people-counted : (people boxes : ℕ) (dir : List ℕ) → Sound people boxes dir → min people (people-room (length dir)) ≡ people
+people-counted people boxes dir sound = omega (arith, sound .people-few, sound .boxes-fit)
+
+pub boxes-counted : (people boxes : ℕ) (dir : List ℕ) → Sound people boxes dir → min boxes (box-room (length dir)) ≡ boxes
+boxes-counted people boxes dir sound = omega (arith, sound .boxes-fit)

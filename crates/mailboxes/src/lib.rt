@@ -11,3 +11,6 @@ pub use add::first;
 pub use directory::Directory;
 pub use place::MOST_PEOPLE;
 pub use place::RECORD_WORDS;
+
+#[cfg(test)]
+mod tests;

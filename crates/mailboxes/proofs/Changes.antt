@@ -47,8 +47,8 @@ module _ (boxes : ℕ) (dir dir′ : List ℕ) (o : ℕ) (nm : List ℕ) (named 
       ∙ ap (each (box-of dir′)) (those-append (owns dir′ a) (count-up 0 boxes) (boxes ∷ []))
       ∙ each-append (box-of dir′) (those (owns dir′ a) (count-up 0 boxes)) (those (owns dir′ a) (boxes ∷ []))
       ∙ ap (λ l. l ++ each (box-of dir′) (those (owns dir′ a) (boxes ∷ [])))
-        (each-those-alike (box-of dir′) (box-of dir) (owns dir′ a) (owns dir a) boxes 0 (λ i _ l.
-          let e = old i (omega arith) in (box-alike dir dir′ i e, ap (λ b. eqb b a) (owner-alike dir dir′ (box-place i) e))))
+      (each-those-alike (box-of dir′) (box-of dir) (owns dir′ a) (owns dir a) boxes 0 (λ i _ l.
+      let e = old i (omega arith) in (box-alike dir dir′ i e, ap (λ b. eqb b a) (owner-alike dir dir′ (box-place i) e))))
       ∙ ap (λ l. boxes-of boxes dir a ++ l) (last-box a)
 
   -- nobody else gets a box, and the owner gets just this one
@@ -62,7 +62,7 @@ module _ (boxes : ℕ) (dir dir′ : List ℕ) (o : ℕ) (nm : List ℕ) (named 
 no-boxes : (people boxes : ℕ) (dir : List ℕ) → ((i : ℕ) → i < boxes → owner-at dir (box-place i) < people) → boxes-of boxes dir people ≡ []
 no-boxes people boxes dir owners =
     ap (each (box-of dir)) (those-none (owns dir people) boxes 0 (λ i _ l.
-      ne-eqb (owner-at dir (box-place i)) people (λ e. omega (arith, owners i (omega arith)))))
+    ne-eqb (owner-at dir (box-place i)) people (λ e. omega (arith, owners i (omega arith)))))
 
 abbrev Persons-named : ℕ → List ℕ → Type 0
 Persons-named people dir = (a : ℕ) → a < people → (nm : List ℕ) × (a-name nm ≡ true) × (part dir (person-place a) 9 ≡ name-record 0 nm)
@@ -145,10 +145,10 @@ module _ (people boxes : ℕ) (dir : List ℕ) (nm : List ℕ) (few : people < 6
   unfolding person-of
   person-new b =
       let kept = person-front (with-person people boxes dir nm) (person-place people) nm (with-person-new people boxes dir nm few room) in
-      rw
-      ( name-kept (with-person people boxes dir nm) (person-place people) 0 nm (name-short nm named) (name-bytes nm named) kept
-      , boxes-owner boxes dir (with-person people boxes dir nm) people in-box refl (with-person-old people boxes dir nm few room) (with-person-box people boxes dir nm few room)
-      , no-boxes people boxes dir (owners-there b)
+      rw (
+        name-kept (with-person people boxes dir nm) (person-place people) 0 nm (name-short nm named) (name-bytes nm named) kept,
+        boxes-owner boxes dir (with-person people boxes dir nm) people in-box refl (with-person-old people boxes dir nm few room) (with-person-box people boxes dir nm few room),
+        no-boxes people boxes dir (owners-there b),
       )
 
   house-with-person : (n : ℕ) → Boxes-named people boxes dir →
@@ -160,29 +160,29 @@ module _ (people boxes : ℕ) (dir : List ℕ) (nm : List ℕ) (few : people < 6
       (ap (each (person-of (suc boxes) (with-person people boxes dir nm))) (count-up-push people)
       ∙ each-append (person-of (suc boxes) (with-person people boxes dir nm)) (count-up 0 people) (people ∷ [])
       ∙ ap (λ l. l ++ person-of (suc boxes) (with-person people boxes dir nm) people ∷ [])
-        (each-alike (person-of (suc boxes) (with-person people boxes dir nm)) (person-of boxes dir) people 0 (λ a _ l. person-before b a (omega arith)))
+      (each-alike (person-of (suc boxes) (with-person people boxes dir nm)) (person-of boxes dir) people 0 (λ a _ l. person-before b a (omega arith)))
       ∙ ap (λ p. each (person-of boxes dir) (count-up 0 people) ++ p ∷ []) (person-new b))
 
   sound-with-person : Persons-named people dir → Boxes-named people boxes dir → Sound (suc people) (suc boxes) (with-person people boxes dir nm)
-  sound-with-person p b = record
-      { somebody-there = omega arith
-      ; people-few = omega arith
-      ; boxes-fit = omega (arith, length-with-person people boxes dir nm few room)
-      ; person-named = λ a l. elim (cases-eq a people) [
-          | inl e ↦ (nm, named, rw e (person-front (with-person people boxes dir nm) (person-place people) nm (with-person-new people boxes dir nm few room)))
-          | inr e ↦
-            let l′ : a < people = omega arith in
-            let (n, ok, kept) = p a l′ in
-            (n, ok, front-alike dir (with-person people boxes dir nm) (person-place a) (with-person-person people boxes dir nm few room a l′) ∙ kept)
-        ]
-      ; box-named = λ i l. elim (cases-eq i boxes) [
-          | inl e ↦ (people, in-box, omega arith, refl, rw e (box-front (with-person people boxes dir nm) (box-place boxes) people in-box (with-person-box people boxes dir nm few room)))
-          | inr e ↦
-            let l′ : i < boxes = omega arith in
-            let (a, n, there, ok, kept) = b i l′ in
-            (a, n, omega arith, ok, front-alike dir (with-person people boxes dir nm) (box-place i) (with-person-old people boxes dir nm few room i l′) ∙ kept)
-        ]
-      }
+  sound-with-person p b = record {
+    somebody-there = omega arith;
+    people-few = omega arith;
+    boxes-fit = omega (arith, length-with-person people boxes dir nm few room);
+    person-named = λ a l. elim (cases-eq a people) [
+      | inl e ↦ (nm, named, rw e (person-front (with-person people boxes dir nm) (person-place people) nm (with-person-new people boxes dir nm few room)))
+      | inr e ↦
+          let l′ : a < people = omega arith in
+          let (n, ok, kept) = p a l′ in
+          (n, ok, front-alike dir (with-person people boxes dir nm) (person-place a) (with-person-person people boxes dir nm few room a l′) ∙ kept)
+    ];
+    box-named = λ i l. elim (cases-eq i boxes) [
+      | inl e ↦ (people, in-box, omega arith, refl, rw e (box-front (with-person people boxes dir nm) (box-place boxes) people in-box (with-person-box people boxes dir nm few room)))
+      | inr e ↦
+          let l′ : i < boxes = omega arith in
+          let (a, n, there, ok, kept) = b i l′ in
+          (a, n, omega arith, ok, front-alike dir (with-person people boxes dir nm) (box-place i) (with-person-old people boxes dir nm few room i l′) ∙ kept)
+    ];
+  }
 
 -- a new person in a sound directory
 module _ (people boxes : ℕ) (dir : List ℕ) (sound : Sound people boxes dir) (nm : List ℕ) (named : a-name nm ≡ true) (few : people < 64) (room : 864 + 12 * (boxes + 1) ≤ length dir) where
@@ -231,9 +231,9 @@ module _ (people boxes : ℕ) (dir : List ℕ) (sound : Sound people boxes dir) 
   person-owner : person-of (suc boxes) (with-box boxes dir a nm) a ≡ with-boxes (person-of boxes dir a) (person-of boxes dir a .boxes ++ new-one nm ∷ [])
   unfolding person-of
   person-owner =
-      rw
-      ( name-alike dir (with-box boxes dir a nm) (person-place a) (with-box-person boxes dir a nm room a (omega (arith, sound .people-few)))
-      , boxes-owner boxes dir (with-box boxes dir a nm) a nm named (with-box-old boxes dir a nm room) (with-box-new boxes dir a nm room)
+      rw (
+        name-alike dir (with-box boxes dir a nm) (person-place a) (with-box-person boxes dir a nm room a (omega (arith, sound .people-few))),
+        boxes-owner boxes dir (with-box boxes dir a nm) a nm named (with-box-old boxes dir a nm room) (with-box-new boxes dir a nm room),
       )
 
   changed : (n : ℕ) →
@@ -252,24 +252,24 @@ module _ (people boxes : ℕ) (dir : List ℕ) (sound : Sound people boxes dir) 
   with-box-house n =
       changed n
       ∙ ap (λ p. with-people (house-of n people boxes dir) (set-person (house-of n people boxes dir .people) a p))
-        (person-owner ∙ sym (ap (λ p. with-boxes p (p .boxes ++ new-one nm ∷ [])) (person-there n people boxes dir a there)))
+      (person-owner ∙ sym (ap (λ p. with-boxes p (p .boxes ++ new-one nm ∷ [])) (person-there n people boxes dir a there)))
 
   pub with-box-sound : Sound people (suc boxes) (with-box boxes dir a nm)
-  with-box-sound = record
-      { somebody-there = sound .somebody-there
-      ; people-few = sound .people-few
-      ; boxes-fit = omega (arith, length-with-box boxes dir a nm room)
-      ; person-named = λ b l.
-          let (n, ok, kept) = sound .person-named b l in
-          (n, ok, front-alike dir (with-box boxes dir a nm) (person-place b) (with-box-person boxes dir a nm room b (omega (arith, sound .people-few))) ∙ kept)
-      ; box-named = λ i l. elim (cases-eq i boxes) [
-          | inl e ↦ (a, nm, there, named, rw e (box-front (with-box boxes dir a nm) (box-place boxes) a nm (with-box-new boxes dir a nm room)))
-          | inr e ↦
-            let l′ : i < boxes = omega arith in
-            let (b, n, here, ok, kept) = sound .box-named i l′ in
-            (b, n, here, ok, front-alike dir (with-box boxes dir a nm) (box-place i) (with-box-old boxes dir a nm room i l′) ∙ kept)
-        ]
-      }
+  with-box-sound = record {
+    somebody-there = sound .somebody-there;
+    people-few = sound .people-few;
+    boxes-fit = omega (arith, length-with-box boxes dir a nm room);
+    person-named = λ b l.
+        let (n, ok, kept) = sound .person-named b l in
+        (n, ok, front-alike dir (with-box boxes dir a nm) (person-place b) (with-box-person boxes dir a nm room b (omega (arith, sound .people-few))) ∙ kept);
+    box-named = λ i l. elim (cases-eq i boxes) [
+      | inl e ↦ (a, nm, there, named, rw e (box-front (with-box boxes dir a nm) (box-place boxes) a nm (with-box-new boxes dir a nm room)))
+      | inr e ↦
+          let l′ : i < boxes = omega arith in
+          let (b, n, here, ok, kept) = sound .box-named i l′ in
+          (b, n, here, ok, front-alike dir (with-box boxes dir a nm) (box-place i) (with-box-old boxes dir a nm room i l′) ∙ kept)
+    ];
+  }
 
 -- numbers stay below 2^64
 pub all-small-with-box : (boxes : ℕ) (dir : List ℕ) (a : ℕ) (nm : List ℕ) → all-small dir ≡ true → a < 2 ^ 32 → a-name nm ≡ true → all-small (with-box boxes dir a nm) ≡ true

@@ -87,13 +87,13 @@ module _ (dir : List ℕ) (at o : ℕ) (nm : List ℕ) (short : length nm ≤ 64
   unfolding named
   named-kept nm′ short′ bytes′ =
       rw (length-kept, words-of-record dir at o nm kept) (both-true
-        (eqb (length nm) (length nm′) && same (name-words nm) (name-words nm′))
-        (same nm nm′)
-        (λ t. let both = and-parts (eqb (length nm) (length nm′)) (same (name-words nm) (name-words nm′)) t in
-          let l : length nm ≡ length nm′ = eqb-true (length nm) (length nm′) (both .0) in
-          let w : name-words nm ≡ name-words nm′ = same-equal (name-words nm) (name-words nm′) (both .1) in
-          let a = name-back nm short bytes in
-          let b = name-back nm′ short′ bytes′ in
-          let e : nm ≡ nm′ = cc in
-          rw e (same-refl nm′))
-        (λ t. rw (same-equal nm nm′ t, eq-eqb (length nm′) (length nm′) refl) (same-refl (name-words nm′))))
+      (eqb (length nm) (length nm′) && same (name-words nm) (name-words nm′))
+      (same nm nm′)
+      (λ t. let both = and-parts (eqb (length nm) (length nm′)) (same (name-words nm) (name-words nm′)) t in
+      let l : length nm ≡ length nm′ = eqb-true (length nm) (length nm′) (both .0) in
+      let w : name-words nm ≡ name-words nm′ = same-equal (name-words nm) (name-words nm′) (both .1) in
+      let a = name-back nm short bytes in
+      let b = name-back nm′ short′ bytes′ in
+      let e : nm ≡ nm′ = cc in
+      rw e (same-refl nm′))
+      (λ t. rw (same-equal nm nm′ t, eq-eqb (length nm′) (length nm′) refl) (same-refl (name-words nm′))))

@@ -117,17 +117,17 @@ first-some p zero from i e = absurd (let y : _≡_ {A = ℕ} 0 1 = cc in omega a
 first-some p (suc k) from i e =
     elim (cases-bool (p from)) [
       | inl t ↦
-        let z : _≡_ {A = Option ℕ} (Some from) (Some i) = rw t at e in
-        let y : from ≡ i = cc in
-        record { not-before = omega arith; not-past = omega arith; passes = rw y at t; none-earlier = λ j a b. absurd (omega arith) }
+          let z : _≡_ {A = Option ℕ} (Some from) (Some i) = rw t at e in
+          let y : from ≡ i = cc in
+          record { not-before = omega arith; not-past = omega arith; passes = rw y at t; none-earlier = λ j a b. absurd (omega arith) }
       | inr t ↦
-        let r : First p (suc from) k i = first-some p k (suc from) i (rw t at e) in
-        record
-        { not-before = omega arith
-        ; not-past = omega arith
-        ; passes = r .passes
-        ; none-earlier = λ j a b. elim (cases-eq j from) [ inl q ↦ rw q t | inr q ↦ r .none-earlier j (omega arith) b ]
-        }
+          let r : First p (suc from) k i = first-some p k (suc from) i (rw t at e) in
+          record {
+            not-before = omega arith;
+            not-past = omega arith;
+            passes = r .passes;
+            none-earlier = λ j a b. elim (cases-eq j from) [ inl q ↦ rw q t | inr q ↦ r .none-earlier j (omega arith) b ];
+          }
     ]
 
 pub first-is : (p : ℕ → Bool) (k from i : ℕ) → First p from k i → first p from k ≡ Some i
@@ -137,13 +137,13 @@ first-is p (suc k) from i f =
     elim (cases-eq from i) [
       | inl q ↦ let t : p from ≡ true = rw q (f .passes) in rw t (ap Some q)
       | inr q ↦
-        rw
-        (f .none-earlier from (omega arith) (omega arith))
-        (first-is p k (suc from) i (record
-          { not-before = omega arith
-          ; not-past = omega arith
-          ; passes = f .passes
-          ; none-earlier = λ j a b. f .none-earlier j (omega arith) b
+          rw
+          (f .none-earlier from (omega arith) (omega arith))
+          (first-is p k (suc from) i (record {
+            not-before = omega arith;
+            not-past = omega arith;
+            passes = f .passes;
+            none-earlier = λ j a b. f .none-earlier j (omega arith) b;
           }))
     ]
 
@@ -162,13 +162,13 @@ those-first p zero from i e = absurd (let y : _≡_ {A = ℕ} 0 1 = cc in omega 
 those-first p (suc k) from i e =
     elim (cases-bool (p from)) [
       | inl t ↦
-        let z : _≡_ {A = Option ℕ} (Some from) (Some i) = rw t at e in
-        let y : from ≡ i = cc in
-        let n : k ≡ from + suc k - suc from = omega arith in
-        rw t (ap (λ m. from ∷ those p (count-up (suc from) m)) n ∙ ap (λ m. m ∷ those p (count-up (suc m) (from + suc k - suc m))) y)
+          let z : _≡_ {A = Option ℕ} (Some from) (Some i) = rw t at e in
+          let y : from ≡ i = cc in
+          let n : k ≡ from + suc k - suc from = omega arith in
+          rw t (ap (λ m. from ∷ those p (count-up (suc from) m)) n ∙ ap (λ m. m ∷ those p (count-up (suc m) (from + suc k - suc m))) y)
       | inr t ↦
-        let n : suc from + k ≡ from + suc k = omega arith in
-        rw t (those-first p k (suc from) i (rw t at e) ∙ ap (λ m. i ∷ those p (count-up (suc i) (m - suc i))) n)
+          let n : suc from + k ≡ from + suc k = omega arith in
+          rw t (those-first p k (suc from) i (rw t at e) ∙ ap (λ m. i ∷ those p (count-up (suc i) (m - suc i))) n)
     ]
 
 -- counting through places one by one

@@ -97,14 +97,14 @@ pub length-row-at : (dir : List ℕ) (at : ℕ) → length (row-at dir at) ≡ 8
 length-row-at dir at =
     let nm = name-at dir at in
     let next = getD dir (at + 9) 0 in
-    omega
-    ( arith
-    , length-append (with-length nm ++ eight next) (eight 0)
-    , length-append (with-length nm) (eight next)
-    , length-append (eight (length nm)) nm
-    , length-eight (length nm)
-    , length-eight next
-    , length-eight 0
+    omega (
+      arith,
+      length-append (with-length nm ++ eight next) (eight 0),
+      length-append (with-length nm) (eight next),
+      length-append (eight (length nm)) nm,
+      length-eight (length nm),
+      length-eight next,
+      length-eight 0,
     )
 
 pub length-box-row : (dir : List ℕ) (i : ℕ) → length (box-row (box-of dir i)) ≡ 8 + length (name-at dir (box-place i)) + 16
@@ -113,11 +113,11 @@ length-box-row dir i = ap length (box-row-of dir i) ∙ length-row-at dir (box-p
 pub length-name-at : (dir : List ℕ) (at : ℕ) → length (name-at dir at) ≤ 64
 unfolding name-at
 length-name-at dir at =
-    omega
-    ( arith
-    , length-take (getD dir at 0 % 256) (bytes-of (part dir (at + 1) 8))
-    , length-bytes-of (part dir (at + 1) 8)
-    , length-take 8 (drop (at + 1) dir)
+    omega (
+      arith,
+      length-take (getD dir at 0 % 256) (bytes-of (part dir (at + 1) 8)),
+      length-bytes-of (part dir (at + 1) 8),
+      length-take 8 (drop (at + 1) dir),
     )
 
 pub box-row-short : (dir : List ℕ) (i : ℕ) → length (box-row (box-of dir i)) ≤ 88

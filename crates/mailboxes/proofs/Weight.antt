@@ -57,19 +57,19 @@ owned o people zero from h = omega (arith, added-up-same 0 (count-up 0 people))
 owned o people (suc k) from h =
     added-up-alike (λ a. length (those (λ i. eqb (o i) a) (count-up from (suc k)))) (λ a. pick (eqb (o from) a) 1 0 + length (those (λ i. eqb (o i) a) (count-up (suc from) k))) (count-up 0 people) (one-more (o from) from (λ a. those (λ i. eqb (o i) a) (count-up (suc from) k)))
     ∙ added-up-both (λ a. pick (eqb (o from) a) 1 0) (λ a. length (those (λ i. eqb (o i) a) (count-up (suc from) k))) (count-up 0 people)
-    ∙ omega
-      ( arith
-      , one-owner (o from) people 0 (omega arith) (omega (arith, h from (omega arith) (omega arith)))
-      , owned o people k (suc from) (λ i p q. h i (omega arith) (omega arith))
-      )
+    ∙ omega (
+      arith,
+      one-owner (o from) people 0 (omega arith) (omega (arith, h from (omega arith) (omega arith))),
+      owned o people k (suc from) (λ i p q. h i (omega arith) (omega arith)),
+    )
 
 person-weighs : (boxes : ℕ) (dir : List ℕ) (a : ℕ) → person-weight (person-of boxes dir a) ≡ 520 + 256 * count-boxes boxes dir a
 unfolding person-of box-of in-bytes
 person-weighs boxes dir a =
-    omega
-    ( arith
-    , added-up-each (λ b. 256 + letters-weight (b .letters)) (box-of dir) (those (owns dir a) (count-up 0 boxes))
-    , added-up-same 256 (those (owns dir a) (count-up 0 boxes))
+    omega (
+      arith,
+      added-up-each (λ b. 256 + letters-weight (b .letters)) (box-of dir) (those (owns dir a) (count-up 0 boxes)),
+      added-up-same 256 (those (owns dir a) (count-up 0 boxes)),
     )
 
 ways-weigh : (n : ℕ) → added-up {A = Way} (λ v. 64 + added-up (λ o. 256 + length (o .bytes)) (v .waiting)) (so-many n (record { sent = 0; waiting = [] })) ≡ 64 * n
@@ -85,14 +85,14 @@ pub house-weight : (n people boxes : ℕ) (dir : List ℕ) → Sound people boxe
 unfolding house-of
 house-weight n people boxes dir sound =
     let counts : ℕ → ℕ = λ a. count-boxes boxes dir a in
-    omega
-    ( arith
-    , added-up-each person-weight (person-of boxes dir) (count-up 0 people)
-    , added-up-alike (λ a. person-weight (person-of boxes dir a)) (λ a. 520 + 256 * counts a) (count-up 0 people) (person-weighs boxes dir)
-    , added-up-both (λ a. 520) (λ a. 256 * counts a) (count-up 0 people)
-    , added-up-same 520 (count-up 0 people)
-    , length-count-up people 0
-    , added-up-times 256 counts (count-up 0 people)
-    , owned (λ i. owner-at dir (box-place i)) people boxes 0 (λ i _ l. owner-there people boxes dir sound i (omega arith))
-    , ways-weigh n
+    omega (
+      arith,
+      added-up-each person-weight (person-of boxes dir) (count-up 0 people),
+      added-up-alike (λ a. person-weight (person-of boxes dir a)) (λ a. 520 + 256 * counts a) (count-up 0 people) (person-weighs boxes dir),
+      added-up-both (λ a. 520) (λ a. 256 * counts a) (count-up 0 people),
+      added-up-same 520 (count-up 0 people),
+      length-count-up people 0,
+      added-up-times 256 counts (count-up 0 people),
+      owned (λ i. owner-at dir (box-place i)) people boxes 0 (λ i _ l. owner-there people boxes dir sound i (omega arith)),
+      ways-weigh n,
     )

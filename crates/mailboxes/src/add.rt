@@ -7,7 +7,6 @@ ghost use lib.ListN.{length};
 ghost use Rattle.model.specs.Mail.{pick};
 ghost use Rattle.mailboxes.specs.Directory.{person-place, box-place, with-person, with-box, first-directory};
 ghost use Rattle.mailboxes.specs.Room.{room-for};
-
 use crate::name::NAME_BYTES;
 use crate::name::put_record;
 use crate::place::MOST_PEOPLE;
@@ -41,7 +40,12 @@ pub fn add_box(words: &mut [u64], boxes: u64, person: u64, name: &[u8]) -> bool
         return false;
     }
     let at = box_place(boxes);
-    put_record(&mut words[at..at + RECORD_WORDS], person, name, FIRST_NUMBER);
+    put_record(
+        &mut words[at..at + RECORD_WORDS],
+        person,
+        name,
+        FIRST_NUMBER,
+    );
     true
 }
 

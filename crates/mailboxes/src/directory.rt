@@ -7,7 +7,6 @@ ghost use Rattle.model.specs.House.{box-row};
 ghost use Rattle.mailboxes.specs.Directory.{find-person, find-box, count-boxes, next-box, box-of};
 ghost use Rattle.mailboxes.specs.Room.{people-room, box-room};
 ghost use Rattle.mailboxes.specs.Row.{row-fits, row-said, row-over};
-
 use crate::name::has_name;
 use crate::name::owner_at;
 use crate::place::box_place;

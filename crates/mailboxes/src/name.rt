@@ -9,6 +9,7 @@ ghost use Rattle.mailboxes.specs.Directory.{name-words, name-record, named, ow
 pub(crate) const NAME_BYTES: usize = 64;
 
 const NAME_WORDS: usize = 8;
+
 pub(crate) const WORD_BYTES: usize = 8;
 
 // A record's first word is the owner times this, and the name's length.

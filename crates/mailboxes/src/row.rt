@@ -7,7 +7,6 @@ ghost use lib.ListN.{length, getD};
 ghost use Rattle.model.specs.Mail.{eight};
 ghost use Rattle.mailboxes.specs.Directory.{name-at};
 ghost use Rattle.mailboxes.specs.Row.{row-at, row-said, row-over};
-
 use crate::name::NAME_BYTES;
 use crate::name::OWNER_STEP;
 use crate::name::WORD_BYTES;

@@ -35,7 +35,10 @@ fn boxes_are_counted_and_shown() -> Result<(), Fail> {
     check_eq(directory.next_box(0, 1), None)?;
     let mut row = [9; 29];
     check_eq(directory.box_row(2, &mut row), Some(28))?;
-    check_eq(row, *b"\0\0\0\0\0\0\0\x04work\0\0\0\0\0\0\0\x01\0\0\0\0\0\0\0\0\x09")?;
+    check_eq(
+        row,
+        *b"\0\0\0\0\0\0\0\x04work\0\0\0\0\0\0\0\x01\0\0\0\0\0\0\0\0\x09",
+    )?;
     check_eq(directory.box_row(3, &mut row), None)
 }
 

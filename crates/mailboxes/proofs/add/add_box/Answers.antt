@@ -10,9 +10,9 @@ pub returns : need.returns
 unfolding with-box box-record
 returns c =
     let new = box-record (c .args .person) (c .args .name .now) in
-    record
-    { fits = c .if-not-has-room .ensures tt
-    ; written =
-        record-put (c .args .words .now) (c .box-place-at .result) (c .put-record .last .out) new (c .put-record .ensures) (length-box-record (c .args .person) (c .args .name .now))
-        ∙ ap (λ at. patched (c .args .words .now) at new) (c .box-place-at .ensures)
+    record {
+      fits = c .if-not-has-room .ensures tt;
+      written =
+          record-put (c .args .words .now) (c .box-place-at .result) (c .put-record .last .out) new (c .put-record .ensures) (length-box-record (c .args .person) (c .args .name .now))
+          ∙ ap (λ at. patched (c .args .words .now) at new) (c .box-place-at .ensures);
     }

@@ -14,9 +14,9 @@ returns c =
     let words = c .args .words .now in
     let nm = c .args .name .now in
     let put = record-put words (c .person-place-at .result) (c .put-record .last .out) (person-record nm) (c .put-record .ensures) (length-person-record nm)
-        ∙ ap (λ at. patched words at (person-record nm)) (c .person-place-at .ensures) in
+    ∙ ap (λ at. patched words at (person-record nm)) (c .person-place-at .ensures) in
     let (done, new) = person-added words (c .args .people) (c .args .boxes) nm _ (c .add-box .last .words) (c .add-box .result) (sym (c .if-not-has-room .ensures tt)) put (c .add-box .ensures .fits) (c .add-box .ensures .written) in
-    record
-    { fits = done ∙ c .if-not-has-room .ensures tt
-    ; written = new ∙ ap (λ t. pick t (with-person (c .args .people) (c .args .boxes) words nm) words) (sym done)
+    record {
+      fits = done ∙ c .if-not-has-room .ensures tt;
+      written = new ∙ ap (λ t. pick t (with-person (c .args .people) (c .args .boxes) words nm) words) (sym done);
     }

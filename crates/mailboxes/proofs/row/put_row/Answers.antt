@@ -19,8 +19,8 @@ returns c =
     let out = c .args .out .now in
     let n = c .name-len-len .result in
     let long : 8 + n + 8 + 8 ≡ length (row-at words (c .args .at)) = omega (arith, length-row-at words (c .args .at), c .name-len-len .ensures .long) in
-    rw (row-room words (c .args .at) out n (c .name-len-len .ensures .long) (c .if-out-end .left)) (record
-      { says = ap Some long
-      ; written = row-written words (c .args .at) out n (c .put-word .last .out) (c .copy-name .last .out) (c .put-word-2 .last .out) (c .put-word-3 .last .out)
-          (c .name-len-len .ensures .long) (c .if-out-end .left) (c .put-word .ensures) (c .copy-name .ensures) (c .put-word-2 .ensures) (c .put-word-3 .ensures)
-      })
+    rw (row-room words (c .args .at) out n (c .name-len-len .ensures .long) (c .if-out-end .left)) (record {
+      says = ap Some long;
+      written = row-written words (c .args .at) out n (c .put-word .last .out) (c .copy-name .last .out) (c .put-word-2 .last .out) (c .put-word-3 .last .out)
+          (c .name-len-len .ensures .long) (c .if-out-end .left) (c .put-word .ensures) (c .copy-name .ensures) (c .put-word-2 .ensures) (c .put-word-3 .ensures);
+    })

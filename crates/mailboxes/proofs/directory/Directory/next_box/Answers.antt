@@ -9,13 +9,13 @@ use Rattle.mailboxes.proofs.directory.Directory.next_box.Needs as need
 
 pub returns-then-owner-at-person : need.returns-then-owner-at-person
 returns-then-owner-at-person c =
-    sym (first-is (owns (c .args .self .now .words .now) (c .args .person)) (c .args .self .now .boxes - c .args .from) (c .args .from) (c .loop-index .index) (record
-      { not-before = omega arith
-      ; not-past = omega arith
-      ; passes =
-          owns-yes (c .args .self .now .words .now) (c .args .person) (c .loop-index .index) (c .box-place .result) (c .owner-at .result) (c .box-place .ensures) (c .owner-at .ensures) (c .if-owner-at-person .taken)
-      ; none-earlier = c .loop-index .inv
-      }))
+    sym (first-is (owns (c .args .self .now .words .now) (c .args .person)) (c .args .self .now .boxes - c .args .from) (c .args .from) (c .loop-index .index) (record {
+      not-before = omega arith;
+      not-past = omega arith;
+      passes =
+          owns-yes (c .args .self .now .words .now) (c .args .person) (c .loop-index .index) (c .box-place .result) (c .owner-at .result) (c .box-place .ensures) (c .owner-at .ensures) (c .if-owner-at-person .taken);
+      none-earlier = c .loop-index .inv;
+    }))
 
 pub returns : need.returns
 returns c =

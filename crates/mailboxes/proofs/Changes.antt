@@ -1,25 +1,25 @@
 -- What a new person and a new box change: the plain house gets just them, the directory stays sound, and no other words are written.
 use mathlib.Core.Path.{_≡_, refl, sym, ap, _∙_}
-use mathlib.Core.Bool.{Bool, true, false}
+use mathlib.Core.Bool.{true}
 use mathlib.Core.List.{List, [], _∷_, _++_}
 use mathlib.Core.Logic.{_⊎_, inl, inr}
-use Prim.Native.Nat.{ℕ, zero, suc, _+_, _*_, _-_, _/_, _%_, _^_, _≤_, _<_}
+use Prim.Native.Nat.{ℕ, zero, suc, _+_, _*_, _/_, _^_, _≤_, _<_}
 use native.Mathlib.Omega.{arith}
 use lib.Dec.{eqb}
-use lib.ListN.{length, getD}
+use lib.ListN.{length}
 use Rattle.std.proofs.shelf.Tests.{cases-bool, cases-eq, cases-lt, eq-eqb, ne-eqb}
 use Rattle.std.proofs.shelf.Lists.{append-nil}
 use Rattle.model.specs.Mail.{pick, each, those, in-box}
-use Rattle.model.specs.House.{Box, Person, a-name, person-at, set-person, with-people, with-boxes, change-boxes, new-one, at-first}
+use Rattle.model.specs.House.{Person, a-name, person-at, set-person, with-people, with-boxes, change-boxes, new-one, at-first}
 use Rattle.model.specs.Run.{all-small}
 use Rattle.model.specs.Promise.{master, first-house}
 use Rattle.pages.specs.Words.{part, patched}
-use Rattle.mailboxes.specs.Directory.{name-record, person-record, box-record, person-place, box-place, owner-at, name-at, count-up, owns, box-of, boxes-of, person-of, house-of, Sound, with-person, with-box, first-directory}
+use Rattle.mailboxes.specs.Directory.{name-record, person-record, box-record, person-place, box-place, owner-at, count-up, owns, box-of, boxes-of, person-of, house-of, Sound, with-person, with-box, first-directory}
 use Rattle.pages.proofs.Words.{length-patched, part-patched, part-patched-before, part-patched-after, all-small-patched}
 use Rattle.mailboxes.proofs.Places.{each-append, those-append, each-alike, each-those-alike, those-none, count-up-push}
 use Rattle.mailboxes.proofs.Names.{name-short, name-bytes, name-kept, owner-kept}
 use Rattle.mailboxes.proofs.Records.{length-person-record, length-box-record, all-small-person-record, all-small-box-record, person-front, box-front, box-of-record, owner-of-record, front-alike, owner-alike, name-alike, box-alike}
-use Rattle.mailboxes.proofs.People.{owner-there, person-there}
+use Rattle.mailboxes.proofs.People.{person-there}
 
 -- a record of 12 words written over others: it stands there, and what lies apart is as it was
 module _ (dir : List ℕ) (at : ℕ) (ws : List ℕ) (twelve : length ws ≡ 12) (fits : at + 12 ≤ length dir) where

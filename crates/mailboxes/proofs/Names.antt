@@ -2,17 +2,16 @@
 use mathlib.Core.Path.{_≡_, refl, sym, ap, _∙_}
 use mathlib.Core.Bool.{Bool, true, false, _&&_, false≢true}
 use mathlib.Core.List.{List, [], _∷_, _++_}
-use mathlib.Core.Logic.{inl, inr}
-use Prim.Native.Nat.{ℕ, zero, suc, _+_, _*_, _-_, _/_, _%_, _≤_, _<_}
+use Prim.Native.Nat.{ℕ, zero, suc, _+_, _*_, _-_, _%_, _≤_}
 use native.Mathlib.Omega.{arith}
 use lib.Dec.{eqb, ltb, leb}
 use lib.ListN.{length, getD, take, drop, length-append}
-use Rattle.std.proofs.shelf.Tests.{cases-bool, cases-eq, and-parts, and-right, leb-true, eqb-true, eq-eqb, ne-eqb}
+use Rattle.std.proofs.shelf.Tests.{and-parts, leb-true, eqb-true, eq-eqb}
 use Rattle.std.proofs.shelf.Lists.{take-at, getD-take, getD-drop, drop-take, drop-drop}
-use Rattle.model.specs.Mail.{same, every, all-bytes}
+use Rattle.model.specs.Mail.{same, all-bytes}
 use Rattle.model.specs.House.{a-name}
 use Rattle.model.specs.Device.{zeros}
-use Rattle.pages.specs.Words.{words-in, bytes-of, part}
+use Rattle.pages.specs.Words.{bytes-of, part}
 use Rattle.mailboxes.specs.Directory.{name-words, name-record, owner-at, name-at, named}
 use Rattle.pages.proofs.Words.{every-append, bytes-of-words-in, length-zeros}
 

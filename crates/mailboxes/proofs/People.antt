@@ -1,13 +1,13 @@
 -- What a sound directory says of people and boxes, as the plain house that it stands for has them.
-use mathlib.Core.Path.{_≡_, refl, sym, ap, _∙_}
-use mathlib.Core.Bool.{Bool, true, false, _&&_}
-use mathlib.Core.List.{List, [], _∷_, _++_}
-use Prim.Native.Nat.{ℕ, zero, suc, _+_, _*_, _-_, _≤_, _<_, min}
+use mathlib.Core.Path.{_≡_, sym, ap, _∙_}
+use mathlib.Core.Bool.{true, _&&_}
+use mathlib.Core.List.{List}
+use Prim.Native.Nat.{ℕ, zero, suc, _+_, _<_, min}
 use native.Mathlib.Omega.{arith}
 use lib.ListN.{length}
 use Rattle.std.specs.Options.{isSome}
 use Rattle.model.specs.Mail.{any, each, those, same}
-use Rattle.model.specs.House.{Box, Person, a-name, has-box, person-at}
+use Rattle.model.specs.House.{Person, a-name, has-box, person-at}
 use Rattle.mailboxes.specs.Directory.{person-place, box-place, name-at, named, owner-at, count-up, owns, find-person, find-box, count-boxes, box-of, boxes-of, person-of, house-of, Sound}
 use Rattle.mailboxes.specs.Room.{people-room, box-room}
 use Rattle.mailboxes.proofs.Places.{length-each, any-each, any-those, any-alike, length-count-up, first-any}

@@ -1,18 +1,18 @@
 -- Records of 12 words: how long they are, what is read from them, and that equal words are equal records.
 use mathlib.Core.Path.{_≡_, refl, sym, ap, _∙_}
-use mathlib.Core.Bool.{Bool, true, false}
+use mathlib.Core.Bool.{true}
 use mathlib.Core.List.{List, [], _∷_, _++_}
-use Prim.Native.Nat.{ℕ, zero, suc, _+_, _*_, _-_, _/_, _%_, _^_, _≤_, _<_}
+use Prim.Native.Nat.{ℕ, suc, _+_, _*_, _-_, _/_, _%_, _^_, _≤_, _<_}
 use native.Mathlib.Omega.{arith}
 use lib.Dec.{ltb}
 use lib.ListN.{length, getD, take, drop, length-append, length-take}
 use Rattle.std.proofs.shelf.Lists.{take-at, take-take, getD-at}
-use Rattle.model.specs.Mail.{all-bytes, with-length, eight}
-use Rattle.model.specs.House.{Box, box-row, new-one, a-name}
+use Rattle.model.specs.Mail.{with-length, eight}
+use Rattle.model.specs.House.{box-row, new-one, a-name}
 use Rattle.model.specs.Device.{zeros}
 use Rattle.model.specs.Run.{all-small}
-use Rattle.pages.specs.Words.{words-in, bytes-of, part}
-use Rattle.mailboxes.specs.Directory.{name-words, name-record, person-record, box-record, person-place, box-place, owner-at, name-at, box-of}
+use Rattle.pages.specs.Words.{bytes-of, part}
+use Rattle.mailboxes.specs.Directory.{name-words, name-record, person-record, box-record, box-place, owner-at, name-at, box-of}
 use Rattle.mailboxes.specs.Row.{row-at}
 use Rattle.pages.proofs.Words.{every-append, length-eight, length-bytes-of, length-words-in, getD-part, part-of-part, all-small-cons, all-small-append, all-small-words-in}
 use Rattle.mailboxes.proofs.Names.{all-bytes-zeros, name-short, name-bytes, name-kept, owner-kept}

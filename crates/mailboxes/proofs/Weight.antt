@@ -1,7 +1,6 @@
 -- The weight of the plain house that a sound directory stands for, from its counts.
-use mathlib.Core.Path.{_≡_, refl, sym, ap, _∙_}
-use mathlib.Core.Bool.{Bool, true, false}
-use mathlib.Core.List.{List, [], _∷_, _++_}
+use mathlib.Core.Path.{_≡_, refl, ap, _∙_}
+use mathlib.Core.List.{List, [], _∷_}
 use mathlib.Core.Logic.{inl, inr}
 use Prim.Native.Nat.{ℕ, zero, suc, _+_, _*_, _≤_, _<_}
 use native.Mathlib.Omega.{arith}
@@ -9,9 +8,9 @@ use lib.Dec.{eqb}
 use lib.ListN.{length}
 use Rattle.std.proofs.shelf.Tests.{cases-bool, cases-eq, eq-eqb, ne-eqb}
 use Rattle.model.specs.Mail.{pick, added-up, each, those, in-bytes}
-use Rattle.model.specs.House.{Box, Person, Way, Out, House, letters-weight, person-weight, weight}
+use Rattle.model.specs.House.{Way, letters-weight, person-weight, weight}
 use Rattle.model.specs.Run.{so-many}
-use Rattle.mailboxes.specs.Directory.{count-up, owns, box-place, owner-at, count-boxes, box-of, boxes-of, person-of, house-of, Sound}
+use Rattle.mailboxes.specs.Directory.{count-up, owns, box-place, owner-at, count-boxes, box-of, person-of, house-of, Sound}
 use Rattle.mailboxes.proofs.Places.{length-count-up}
 use Rattle.mailboxes.proofs.People.{owner-there}
 

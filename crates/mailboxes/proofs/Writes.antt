@@ -1,10 +1,10 @@
 -- Words written one behind another are one patch.
-use mathlib.Core.Path.{_≡_, refl, sym, ap, _∙_}
+use mathlib.Core.Path.{_≡_, sym, ap, _∙_}
 use mathlib.Core.List.{List, [], _∷_, _++_, append-assoc}
-use Prim.Native.Nat.{ℕ, _+_, _-_, _≤_, _<_}
+use Prim.Native.Nat.{ℕ, _+_, _-_, _<_}
 use native.Mathlib.Omega.{arith}
-use lib.ListN.{length, getD, set, take, drop, length-append}
-use Rattle.std.proofs.shelf.Lists.{take-all, take-more, length-take-le}
+use lib.ListN.{length, getD, set, take, length-append}
+use Rattle.std.proofs.shelf.Lists.{take-more, length-take-le}
 use borrow.Rule.Slice.PartMut.{putMid}
 use Rattle.pages.specs.Words.{patched}
 use Rattle.pages.proofs.Words.{length-patched, set-is-patched, patched-next, patched-all, patched-is-putMid}

@@ -1,11 +1,10 @@
 // One person or one box more: their records are written behind the others. Where there is no room, nothing is written.
 ghost use mathlib.Core.Path.{_≡_};
-ghost use mathlib.Core.List.{[], _∷_};
-ghost use Prim.Native.Nat.{_+_, _*_, _-_, _/_, _<_, _≤_};
-ghost use lib.Dec.{ltb, leb};
+ghost use Prim.Native.Nat.{_+_, _<_};
+ghost use lib.Dec.{leb};
 ghost use lib.ListN.{length};
 ghost use Rattle.model.specs.Mail.{pick};
-ghost use Rattle.mailboxes.specs.Directory.{person-place, box-place, with-person, with-box, first-directory};
+ghost use Rattle.mailboxes.specs.Directory.{with-person, with-box, first-directory};
 ghost use Rattle.mailboxes.specs.Room.{room-for};
 use crate::name::NAME_BYTES;
 use crate::name::put_record;

@@ -1,8 +1,8 @@
 -- One more word written, and the three behind the name.
-use mathlib.Core.Path.{_≡_, ap, _∙_}
-use Prim.Native.Nat.{_+_, _*_, _≤_, _<_}
+use mathlib.Core.Path.{ap, _∙_}
+use Prim.Native.Nat.{_+_, _*_}
 use native.Mathlib.Omega.{arith}
-use lib.ListN.{length, getD, set, take, length-set}
+use lib.ListN.{length, set, length-set}
 use Rattle.std.proofs.shelf.Lists.{take-all}
 use Rattle.pages.specs.Words.{patched}
 use Rattle.mailboxes.specs.Directory.{name-words}

@@ -76,28 +76,31 @@ says-more counting coming t end (Some x) e h =
       from-on = omega (arith, h .from-on);
       before-end = h .before-end;
       differs = h .differs;
-      none-before = λ u l k. elim (cases-eq t u) [ inl same ↦ rw same at e | inr o ↦ h .none-before u (omega arith) k ] }
+      none-before = λ u l k. elim (cases-eq t u) [ inl same ↦ rw same at e | inr o ↦ h .none-before u (omega arith) k ];
+    }
 
 among-says : (counting coming : List ℕ) (n t end : ℕ) → end ≡ t + n → Says counting coming t end (touched-among counting coming n t)
 unfolding touched-among
 among-says counting coming zero t end e = λ u l k. absurd (omega arith)
 among-says counting coming (suc n) t end e =
     elim (cases-eq (bit counting t) (bit coming t)) [
-      inl s ↦
-        let last : end ≡ suc t + n = omega arith in
-        rw (eq-eqb (bit counting t) (bit coming t) s) (says-more counting coming t end (touched-among counting coming n (suc t)) s (among-says counting coming n (suc t) end last))
-    | inr o ↦
-        rw
-        (ne-eqb (bit counting t) (bit coming t) o)
-        (record { from-on = omega arith; before-end = omega arith; differs = o; none-before = λ u l k. absurd (omega arith) }) ]
+      | inl s ↦
+          let last : end ≡ suc t + n = omega arith in
+          rw (eq-eqb (bit counting t) (bit coming t) s) (says-more counting coming t end (touched-among counting coming n (suc t)) s (among-says counting coming n (suc t) end last))
+      | inr o ↦
+          rw
+          (ne-eqb (bit counting t) (bit coming t) o)
+          (record { from-on = omega arith; before-end = omega arith; differs = o; none-before = λ u l k. absurd (omega arith) })
+    ]
 
 pub first-touched-says : (counting coming : List ℕ) (from end : ℕ) →
     Cases (first-touched counting coming from end) (Untouched counting coming from end) (Is-first counting coming from end)
 unfolding first-touched
 first-touched-says counting coming from end =
     elim (cases-lt from end) [
-      inl h ↦ within h
-    | inr h ↦ rw (first-touched-none counting coming from end h) (λ u l k. absurd (omega arith)) ]
+      | inl h ↦ within h
+      | inr h ↦ rw (first-touched-none counting coming from end h) (λ u l k. absurd (omega arith))
+    ]
   where
     within : from < end → Cases (first-touched counting coming from end) (Untouched counting coming from end) (Is-first counting coming from end)
     within h = among-says counting coming (end - from) from end (omega arith)

@@ -11,15 +11,20 @@ use crate::selectors;
 
 // Below the least the regions would not fit; the most is as many pages as the largest device has.
 const LEAST_PAGES: u64 = 256;
+
 const MOST_PAGES: u64 = 1 << 20;
 
 // The directory has people, then ways, then boxes, of 12 words each; the numbers of boxes end where the directory still fits into memory.
 const BOXES_PLACE: u64 = 864;
+
 const BOX_WORDS: u64 = 12;
+
 const MOST_BOXES: u64 = 16384;
 
-const PAGE_WORDS: u64 = 64;
+const PAGE_WORDS: u64 = crate::PAGE_WORDS as u64;
+
 const PAGE_SLOTS: u64 = 8;
+
 const PAGE_BITS: u64 = 4096;
 
 // A device that has room for every region.
@@ -42,7 +47,7 @@ impl Geometry {
         Some(Geometry { pages })
     }
 
-    pub fn pages(&self) -> u64
+    pub fn page_count(&self) -> u64
         ensures { λ r. ⌜ r ≡ now (self .entry) .pages ⌝ }
     {
         self.pages
@@ -52,7 +57,7 @@ impl Geometry {
     pub fn bodies(&self) -> u64
         ensures { λ r. ⌜ r ≡ now (self .entry) .pages / 2 ⌝ }
     {
-        self.pages / 2
+        self.page_count() / 2
     }
 
     pub fn most_boxes(&self) -> u64

@@ -8,24 +8,24 @@ pub returns-then-bit : need.returns-then-bit
 returns-then-bit c =
     sym
     (first-touched-found
-        (c .args .counting .now)
-        (c .args .coming .now)
-        (c .loop-t .t)
-        (c .args .end)
-        (c .loop-t-test .taken)
-        (λ e. c .if-bit .taken (c .bit .ensures ∙ e ∙ sym (c .bit-in-loop-t .ensures))))
+    (c .args .counting .now)
+    (c .args .coming .now)
+    (c .loop-t .t)
+    (c .args .end)
+    (c .loop-t-test .taken)
+    (λ e. c .if-bit .taken (c .bit .ensures ∙ e ∙ sym (c .bit-in-loop-t .ensures))))
     ∙ c .loop-t .inv
 
 pub loop-t-again : need.loop-t-again
 loop-t-again c =
     sym
     (first-touched-same
-        (c .args .counting .now)
-        (c .args .coming .now)
-        (c .loop-t .t)
-        (c .args .end)
-        (c .loop-t-test .taken)
-        (sym (c .bit .ensures) ∙ c .if-bit .left ∙ c .bit-in-loop-t .ensures))
+    (c .args .counting .now)
+    (c .args .coming .now)
+    (c .loop-t .t)
+    (c .args .end)
+    (c .loop-t-test .taken)
+    (sym (c .bit .ensures) ∙ c .if-bit .left ∙ c .bit-in-loop-t .ensures))
     ∙ c .loop-t .inv
 
 pub returns-else-t-words : need.returns-else-t-words

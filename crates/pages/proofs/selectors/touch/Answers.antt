@@ -12,7 +12,7 @@ pub returns-else-bit : need.returns-else-bit
 returns-else-bit c =
     sym
     (touched-already
-        (c .args .counting .now)
-        (c .args .coming .now)
-        (c .args .t)
-        (λ e. c .if-bit .left (c .bit .ensures ∙ e ∙ sym (c .bit-2 .ensures))))
+    (c .args .counting .now)
+    (c .args .coming .now)
+    (c .args .t)
+    (λ e. c .if-bit .left (c .bit .ensures ∙ e ∙ sym (c .bit-2 .ensures))))

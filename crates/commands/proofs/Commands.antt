@@ -106,12 +106,13 @@ said-or-not text = by (command-of text) refl
 
 pub reads : Reads
 unfolding Reads
-reads text =
-    (read-was-said text, said-is-read text,
-     λ e a s. nothing-read a (sym e ∙ said-is-read text a s),
-     λ never. ⊎-elim (λ r. absurd (let n : zero ≡ suc zero = never (r .0) (r .2) in omega arith)) (λ r. r .0) (said-or-not text))
+reads text = (
+  read-was-said text,
+  said-is-read text,
+  λ e a s. nothing-read a (sym e ∙ said-is-read text a s),
+  λ never. ⊎-elim (λ r. absurd (let n : zero ≡ suc zero = never (r .0) (r .2) in omega arith)) (λ r. r .0) (said-or-not text),
+)
 
 pub spelled-once : Spelled-once
 unfolding Spelled-once Said
 spelled-once a c ta tc e = same-some a c (sym (said-is-read (spelled a) a (refl, ta)) ∙ said-is-read (spelled a) c (sym e, tc))
-

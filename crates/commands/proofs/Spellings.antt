@@ -40,8 +40,9 @@ person-reads = below-reads 64 (omega arith)
 pub byte-reads : Reads-spelling read-byte (λ b. b ∷ []) (λ b. true)
 unfolding read-byte
 byte-reads = record {
-    was-spelled = byte-was-spelled;
-    is-read = λ v rest t. refl }
+  was-spelled = byte-was-spelled;
+  is-read = λ v rest t. refl;
+}
   where
     byte-was-spelled : (bs : List ℕ) (v : ℕ) (rest : List ℕ) → read-byte bs ≡ Some (v, rest) → (v ∷ [] ++ rest ≡ bs) × (true ≡ true)
     byte-was-spelled [] v rest e = nothing-read (v, rest) e
@@ -54,8 +55,9 @@ mark-reads = only-reads byte-reads (λ m. ltb m 8) (λ m t. refl)
 pub flag-reads : Reads-spelling read-flag (λ v. bit v ∷ []) (λ v. true)
 unfolding read-flag read-byte
 flag-reads = record {
-    was-spelled = λ bs v rest e. made-was-spelled bit-reads (eqb 1) (λ v. bit v ∷ []) (λ v. true) [] bit-of (λ b t. refl) bs v rest e;
-    is-read = λ v rest t. elim v as (λ w. read-flag (bit w ∷ rest) ≡ Some (w, rest)) [ true ↦ refl | false ↦ refl ] }
+  was-spelled = λ bs v rest e. made-was-spelled bit-reads (eqb 1) (λ v. bit v ∷ []) (λ v. true) [] bit-of (λ b t. refl) bs v rest e;
+  is-read = λ v rest t. elim v as (λ w. read-flag (bit w ∷ rest) ≡ Some (w, rest)) [ true ↦ refl | false ↦ refl ];
+}
   where
     bit-reads : Reads-spelling (only (λ b. ltb b 2) read-byte) (λ b. b ∷ []) (λ b. ltb b 2)
     bit-reads = only-reads byte-reads (λ b. ltb b 2) (λ b t. refl)
@@ -101,8 +103,9 @@ module _ (d : ℕ) (below : Reads-spelling (read-test d) test-spelled (test-fits
 pub test-reads : (d : ℕ) → Reads-spelling (read-test d) test-spelled (test-fits d)
 unfolding read-test test-fits
 test-reads zero = record {
-    was-spelled = λ bs v rest e. nothing-read (v, rest) e;
-    is-read = λ v rest t. absurd (false≢true t) }
+  was-spelled = λ bs v rest e. nothing-read (v, rest) e;
+  is-read = λ v rest t. absurd (false≢true t);
+}
 test-reads (suc d) = record { was-spelled = deeper-was-spelled d (test-reads d); is-read = deeper-is-read d (test-reads d) }
 
 action-was-spelled : (bs : List ℕ) (v : Action) (rest : List ℕ) → read-action bs ≡ Some (v, rest) → (act-spelled v ++ rest ≡ bs) × (act-fits v ≡ true)
@@ -132,10 +135,11 @@ action-reads = record { was-spelled = action-was-spelled; is-read = action-is-re
 pub rule-reads : Reads-spelling read-rule rule-spelled rule-fits
 unfolding read-rule
 rule-reads = record {
-    was-spelled = λ bs v rest e. made-was-spelled parts (λ p. record { test = p .0; acts = p .1 }) rule-spelled rule-fits [] (λ p t. append-assoc (test-spelled (p .0)) (eight (length (p .1))) (flat act-spelled (p .1))) (λ p t. t) bs v rest e;
-    is-read = λ v rest t.
-        made-is-read parts (λ p. record { test = p .0; acts = p .1 }) (v .test, v .acts) (rule-spelled v) rest
-            (append-assoc (test-spelled (v .test)) (eight (length (v .acts))) (flat act-spelled (v .acts))) t }
+  was-spelled = λ bs v rest e. made-was-spelled parts (λ p. record { test = p .0; acts = p .1 }) rule-spelled rule-fits [] (λ p t. append-assoc (test-spelled (p .0)) (eight (length (p .1))) (flat act-spelled (p .1))) (λ p t. t) bs v rest e;
+  is-read = λ v rest t.
+      made-is-read parts (λ p. record { test = p .0; acts = p .1 }) (v .test, v .acts) (rule-spelled v) rest
+      (append-assoc (test-spelled (v .test)) (eight (length (v .acts))) (flat act-spelled (v .acts))) t;
+}
   where
     parts : Reads-spelling (pair (read-test 4) (listed 8 read-action)) (λ p. test-spelled (p .0) ++ (eight (length (p .1)) ++ flat act-spelled (p .1))) (λ p. test-fits 4 (p .0) && (leb (length (p .1)) 8 && every act-fits (p .1)))
     parts = pair-reads (test-reads 4) (listed-reads action-reads 8 (omega arith))

@@ -1,20 +1,19 @@
 -- Numbers of eight bytes, and bytes and lists with their count before them, as they are spelled and read.
 use mathlib.Core.Path.{_≡_, refl, sym, ap, _∙_}
-use mathlib.Core.Bool.{Bool, true, false, _&&_}
+use mathlib.Core.Bool.{Bool, true, _&&_}
 use mathlib.Core.List.{List, [], _∷_, _++_, append-assoc, append-nil}
-use Prim.Native.Nat.{ℕ, zero, suc, _+_, _*_, _/_, _%_, _^_, _≤_, _<_}
+use Prim.Native.Nat.{ℕ, zero, suc, _+_, _*_, _/_, _%_, _^_, _<_}
 use native.Mathlib.Omega.{arith}
-use native.Mathlib.Nat.{pow-succ', mul-assoc, mul-comm, add-suc, zero-add}
-use lib.Dec.{eqb, ltb, leb}
-use lib.ListN.{length, getD, take, drop}
-use Rattle.std.specs.declared.option.Option.{Option}
-use Rattle.std.specs.declared.option.Option.the-variants.{Some, None}
+use native.Mathlib.Nat.{pow-succ', mul-assoc, mul-comm, zero-add}
+use lib.Dec.{ltb, leb}
+use lib.ListN.{length, take, drop}
+use Rattle.std.specs.declared.option.Option.the-variants.{Some}
 use Rattle.std.proofs.shelf.Tests.{and-parts, and-from, ltb-true, lt-ltb, leb-true, le-leb}
 use Rattle.std.proofs.shelf.Lists.{take-append-drop, length-take-le, take-at, drop-at, length-append}
-use Rattle.model.specs.Mail.{pick, every, flat, in-bytes, eight, with-length, all-bytes}
+use Rattle.model.specs.Mail.{every, flat, in-bytes, eight, with-length, all-bytes}
 use Rattle.model.specs.House.{number-fits}
 use Rattle.model.specs.Promise.{from-bytes}
-use Rattle.commands.specs.Reader.{Reader, given, nothing, go-on, then, made, pair, only, so-many, by-kind, first, read-number, read-counted, listed}
+use Rattle.commands.specs.Reader.{Reader, only, so-many, first, read-number, read-counted, listed}
 use Rattle.commands.proofs.Readers.{Reads-spelling, went-on, made-parts, only-parts, taken, so-many-was-spelled, so-many-is-read}
 
 -- digits of a number, and the number of digits

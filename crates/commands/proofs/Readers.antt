@@ -2,15 +2,14 @@
 use mathlib.Core.Path.{_≡_, refl, sym, ap, _∙_}
 use mathlib.Core.Bool.{Bool, true, false, _&&_}
 use mathlib.Core.List.{List, [], _∷_, _++_, append-assoc, append-nil}
-use Prim.Native.Nat.{ℕ, zero, suc, _≤_, _<_}
+use Prim.Native.Nat.{ℕ, zero, suc}
 use native.Mathlib.Omega.{arith}
-use lib.Dec.{eqb, ltb, leb}
-use lib.ListN.{length, getD, take, drop}
+use lib.ListN.{length}
 use Rattle.std.specs.declared.option.Option.{Option}
 use Rattle.std.specs.declared.option.Option.the-variants.{Some, None}
 use Rattle.std.proofs.shelf.Tests.{and-parts, and-from}
 use Rattle.model.specs.Mail.{pick, every, flat}
-use Rattle.commands.specs.Reader.{Reader, given, nothing, go-on, then, made, pair, only, so-many, by-kind, no-more, all-used, whole}
+use Rattle.commands.specs.Reader.{Reader, given, go-on, made, pair, only, so-many, no-more, all-used, whole}
 
 pub record Reads-spelling {A : Type 0} (r : Reader A) (spell : A → List ℕ) (fit : A → Bool) : Type 0 where
   pub was-spelled : (bs : List ℕ) (v : A) (rest : List ℕ) → r bs ≡ Some (v, rest) → (spell v ++ rest ≡ bs) × (fit v ≡ true)

@@ -1,18 +1,17 @@
 -- The parts of a command, tests and rules, as they are spelled and read.
-use mathlib.Core.Path.{_≡_, refl, sym, ap, _∙_}
-use mathlib.Core.Bool.{Bool, true, false, _&&_, false≢true}
+use mathlib.Core.Path.{_≡_, refl, sym, ap}
+use mathlib.Core.Bool.{true, false, _&&_, false≢true}
 use mathlib.Core.List.{List, [], _∷_, _++_, append-assoc}
-use Prim.Native.Nat.{ℕ, zero, suc, _+_, _≤_, _<_}
+use Prim.Native.Nat.{ℕ, zero, suc, _+_, _<_}
 use native.Mathlib.Omega.{arith}
 use lib.Dec.{eqb, ltb, leb}
 use lib.ListN.{length}
-use Rattle.std.specs.declared.option.Option.{Option}
-use Rattle.std.specs.declared.option.Option.the-variants.{Some, None}
-use Rattle.std.proofs.shelf.Tests.{and-parts, and-from, ltb-true, lt-ltb, leb-true, le-leb}
-use Rattle.model.specs.Mail.{pick, every, flat, eight, with-length, all-bytes, Test, always, field-has, field-is, longer, marked, neither, both, either, Action, keep, file, away, on-to, mark, halt, Rule}
+use Rattle.std.specs.declared.option.Option.the-variants.{Some}
+use Rattle.std.proofs.shelf.Tests.{and-parts, ltb-true, lt-ltb, leb-true}
+use Rattle.model.specs.Mail.{every, flat, eight, with-length, all-bytes, Test, always, field-has, field-is, longer, marked, neither, both, either, Action, keep, file, away, on-to, mark, halt}
 use Rattle.model.specs.House.{number-fits, a-name, bit, test-spelled, test-fits, act-spelled, act-fits, rule-spelled, rule-fits, rules-spelled}
-use Rattle.commands.specs.Reader.{Reader, given, made, pair, only, by-kind, read-byte, read-number, read-name, read-letter, read-house, read-person, read-mark, read-flag, read-test, read-action, read-rule, read-rules, listed}
-use Rattle.commands.proofs.Readers.{Reads-spelling, made-parts, only-parts, given-was-spelled, nothing-read, made-was-spelled, made-is-read, pair-reads, only-reads, same-some}
+use Rattle.commands.specs.Reader.{pair, only, by-kind, read-byte, read-number, read-name, read-letter, read-house, read-person, read-mark, read-flag, read-test, read-action, read-rule, read-rules, listed}
+use Rattle.commands.proofs.Readers.{Reads-spelling, given-was-spelled, nothing-read, made-was-spelled, made-is-read, pair-reads, only-reads, same-some}
 use Rattle.commands.proofs.Numbers.{number-reads, counted-reads, listed-reads}
 
 pub fits-below : (m n : ℕ) → m < 18446744073709551616 → leb n m ≡ true → number-fits n ≡ true

@@ -1,5 +1,4 @@
 use mathlib.Core.Path.{sym}
-use borrow.Author.Needs.{needs}
 use Rattle.std.proofs.shelf.Tests.{le-leb}
 use Rattle.commands.proofs.kinds.list_count.Needs as need
 

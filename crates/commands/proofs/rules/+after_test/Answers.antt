@@ -1,7 +1,6 @@
 use mathlib.Core.Path.{sym, ap}
 use native.Mathlib.Omega.{arith}
 use borrow.Author.Needs.{needs}
-use Prim.Native.Nat.{_<_}
 use Rattle.commands.specs.Reader.{read-test, by-kind}
 use Rattle.commands.specs.Lent.{left-after}
 use Rattle.commands.proofs.Laws.{no-such-kind, test-at}

@@ -2,14 +2,14 @@
 use mathlib.Core.Path.{_≡_, refl, sym, ap, _∙_}
 use mathlib.Core.Bool.{Bool, true, false, _&&_}
 use mathlib.Core.List.{List, [], _∷_, _++_, append-assoc, append-nil}
-use Prim.Native.Nat.{ℕ, zero, suc}
+use Prim.Native.Nat.{ℕ, zero, suc, _+_}
 use native.Mathlib.Omega.{arith}
-use lib.ListN.{length}
+use lib.ListN.{length, getD}
 use Rattle.std.specs.declared.option.Option.{Option}
 use Rattle.std.specs.declared.option.Option.the-variants.{Some, None}
 use Rattle.std.proofs.shelf.Tests.{and-parts, and-from}
 use Rattle.model.specs.Mail.{pick, every, flat}
-use Rattle.commands.specs.Reader.{Reader, given, go-on, made, pair, only, so-many, no-more, all-used, whole}
+use Rattle.commands.specs.Reader.{Reader, given, nothing, go-on, made, pair, only, so-many, by-kind, no-more, all-used, whole}
 
 pub record Reads-spelling {A : Type 0} (r : Reader A) (spell : A → List ℕ) (fit : A → Bool) : Type 0 where
   pub was-spelled : (bs : List ℕ) (v : A) (rest : List ℕ) → r bs ≡ Some (v, rest) → (spell v ++ rest ≡ bs) × (fit v ≡ true)
@@ -62,6 +62,29 @@ given-was-spelled a spell fit front same fits bs v rest e =
 
 pub nothing-read : {A : Type 0} {P : Type 0} (q : A) → _≡_ {A = Option A} None (Some q) → P
 nothing-read q e = absurd (let z : _≡_ {A = ℕ} 0 1 = cc in omega arith)
+
+-- readers by the first byte, from a number on: each reads what is spelled with that number before it
+infixr 5 _&_
+pub data Kinds {A : Type 0} (spell : A → List ℕ) (fit : A → Bool) : ℕ → List (Reader A) → Type 0 where
+  no-more-kinds : {k : ℕ} → Kinds spell fit k []
+  _&_ :
+      {k : ℕ} {r : Reader A} {rs : List (Reader A)} →
+      ((bs : List ℕ) (v : A) (rest : List ℕ) → r bs ≡ Some (v, rest) → (spell v ++ rest ≡ k ∷ bs) × (fit v ≡ true)) →
+      Kinds spell fit (suc k) rs → Kinds spell fit k (r ∷ rs)
+
+kind-was-spelled :
+    {A : Type 0} {spell : A → List ℕ} {fit : A → Bool} {k : ℕ} {rs : List (Reader A)} → Kinds spell fit k rs →
+    (j : ℕ) (bs : List ℕ) (v : A) (rest : List ℕ) → getD rs j nothing bs ≡ Some (v, rest) → (spell v ++ rest ≡ (k + j) ∷ bs) × (fit v ≡ true)
+kind-was-spelled no-more-kinds j bs v rest e = nothing-read (v, rest) e
+kind-was-spelled {k = k} (h & hs) zero bs v rest e = let z : k + 0 ≡ k = omega arith in rw z (h bs v rest e)
+kind-was-spelled {k = k} (h & hs) (suc j) bs v rest e = let z : k + suc j ≡ suc k + j = omega arith in rw z (kind-was-spelled hs j bs v rest e)
+
+pub by-kind-was-spelled :
+    {A : Type 0} {spell : A → List ℕ} {fit : A → Bool} {rs : List (Reader A)} → Kinds spell fit 0 rs →
+    (bs : List ℕ) (v : A) (rest : List ℕ) → by-kind rs bs ≡ Some (v, rest) → (spell v ++ rest ≡ bs) × (fit v ≡ true)
+unfolding by-kind
+by-kind-was-spelled hs [] v rest e = nothing-read (v, rest) e
+by-kind-was-spelled hs (j ∷ bs) v rest e = let z : 0 + j ≡ j = omega arith in rw z at (kind-was-spelled hs j bs v rest e)
 
 module _ {A B : Type 0} {r : Reader A} {s : A → List ℕ} {g : A → Bool} (reads : Reads-spelling r s g) where
   pub made-was-spelled :

@@ -10,8 +10,8 @@ use Rattle.std.specs.declared.option.Option.the-variants.{Some}
 use Rattle.std.proofs.shelf.Tests.{and-parts, ltb-true, lt-ltb, leb-true}
 use Rattle.model.specs.Mail.{every, flat, eight, with-length, all-bytes, Test, always, field-has, field-is, longer, marked, neither, both, either, Action, keep, file, away, on-to, mark, halt}
 use Rattle.model.specs.House.{number-fits, a-name, bit, test-spelled, test-fits, act-spelled, act-fits, rule-spelled, rule-fits, rules-spelled}
-use Rattle.commands.specs.Reader.{pair, only, by-kind, read-byte, read-number, read-name, read-letter, read-house, read-person, read-mark, read-flag, read-test, read-action, read-rule, read-rules, listed}
-use Rattle.commands.proofs.Readers.{Reads-spelling, given-was-spelled, nothing-read, made-was-spelled, made-is-read, pair-reads, only-reads, same-some}
+use Rattle.commands.specs.Reader.{pair, only, by-kind, read-byte, read-number, read-name, read-letter, read-house, read-person, read-mark, read-flag, test-kinds, read-test, action-kinds, read-action, read-rule, read-rules, listed}
+use Rattle.commands.proofs.Readers.{Reads-spelling, Kinds, no-more-kinds, _&_, by-kind-was-spelled, given-was-spelled, nothing-read, made-was-spelled, made-is-read, pair-reads, only-reads, same-some}
 use Rattle.commands.proofs.Numbers.{number-reads, counted-reads, listed-reads}
 
 pub fits-below : (m n : ℕ) → m < 18446744073709551616 → leb n m ≡ true → number-fits n ≡ true
@@ -68,25 +68,18 @@ flag-reads = record {
 
 -- a test one deeper than those below it
 module _ (d : ℕ) (below : Reads-spelling (read-test d) test-spelled (test-fits d)) where
-  deeper-was-spelled : (bs : List ℕ) (v : Test) (rest : List ℕ) → read-test (suc d) bs ≡ Some (v, rest) → (test-spelled v ++ rest ≡ bs) × (test-fits (suc d) v ≡ true)
-  unfolding read-test test-spelled test-fits by-kind
-  deeper-was-spelled [] v rest e = nothing-read (v, rest) e
-  deeper-was-spelled (zero ∷ bs) v rest e = given-was-spelled always test-spelled (test-fits (suc d)) (0 ∷ []) refl refl bs v rest e
-  deeper-was-spelled (suc zero ∷ bs) v rest e =
-      made-was-spelled (pair-reads name-reads name-reads) (λ p. field-has (p .0) (p .1)) test-spelled (test-fits (suc d)) (1 ∷ []) (λ p t. refl) (λ p t. t) bs v rest e
-  deeper-was-spelled (suc (suc zero) ∷ bs) v rest e =
-      made-was-spelled (pair-reads name-reads name-reads) (λ p. field-is (p .0) (p .1)) test-spelled (test-fits (suc d)) (2 ∷ []) (λ p t. refl) (λ p t. t) bs v rest e
-  deeper-was-spelled (suc (suc (suc zero)) ∷ bs) v rest e =
-      made-was-spelled number-reads longer test-spelled (test-fits (suc d)) (3 ∷ []) (λ k t. refl) (λ k t. t) bs v rest e
-  deeper-was-spelled (suc (suc (suc (suc zero))) ∷ bs) v rest e =
-      made-was-spelled mark-reads marked test-spelled (test-fits (suc d)) (4 ∷ []) (λ m t. refl) (λ m t. t) bs v rest e
-  deeper-was-spelled (suc (suc (suc (suc (suc zero)))) ∷ bs) v rest e =
-      made-was-spelled below neither test-spelled (test-fits (suc d)) (5 ∷ []) (λ u t. refl) (λ u t. t) bs v rest e
-  deeper-was-spelled (suc (suc (suc (suc (suc (suc zero))))) ∷ bs) v rest e =
-      made-was-spelled (pair-reads below below) (λ p. both (p .0) (p .1)) test-spelled (test-fits (suc d)) (6 ∷ []) (λ p t. refl) (λ p t. t) bs v rest e
-  deeper-was-spelled (suc (suc (suc (suc (suc (suc (suc zero)))))) ∷ bs) v rest e =
-      made-was-spelled (pair-reads below below) (λ p. either (p .0) (p .1)) test-spelled (test-fits (suc d)) (7 ∷ []) (λ p t. refl) (λ p t. t) bs v rest e
-  deeper-was-spelled (suc (suc (suc (suc (suc (suc (suc (suc k))))))) ∷ bs) v rest e = nothing-read (v, rest) e
+  deeper-kinds : Kinds test-spelled (test-fits (suc d)) 0 (test-kinds (read-test d))
+  unfolding test-spelled test-fits
+  deeper-kinds =
+      given-was-spelled always test-spelled (test-fits (suc d)) (0 ∷ []) refl refl
+      & made-was-spelled (pair-reads name-reads name-reads) (λ p. field-has (p .0) (p .1)) test-spelled (test-fits (suc d)) (1 ∷ []) (λ p t. refl) (λ p t. t)
+      & made-was-spelled (pair-reads name-reads name-reads) (λ p. field-is (p .0) (p .1)) test-spelled (test-fits (suc d)) (2 ∷ []) (λ p t. refl) (λ p t. t)
+      & made-was-spelled number-reads longer test-spelled (test-fits (suc d)) (3 ∷ []) (λ k t. refl) (λ k t. t)
+      & made-was-spelled mark-reads marked test-spelled (test-fits (suc d)) (4 ∷ []) (λ m t. refl) (λ m t. t)
+      & made-was-spelled below neither test-spelled (test-fits (suc d)) (5 ∷ []) (λ u t. refl) (λ u t. t)
+      & made-was-spelled (pair-reads below below) (λ p. both (p .0) (p .1)) test-spelled (test-fits (suc d)) (6 ∷ []) (λ p t. refl) (λ p t. t)
+      & made-was-spelled (pair-reads below below) (λ p. either (p .0) (p .1)) test-spelled (test-fits (suc d)) (7 ∷ []) (λ p t. refl) (λ p t. t)
+      & no-more-kinds
 
   deeper-is-read : (v : Test) (rest : List ℕ) → test-fits (suc d) v ≡ true → read-test (suc d) (test-spelled v ++ rest) ≡ Some (v, rest)
   unfolding read-test test-spelled test-fits by-kind
@@ -105,19 +98,18 @@ test-reads zero = record {
   was-spelled = λ bs v rest e. nothing-read (v, rest) e;
   is-read = λ v rest t. absurd (false≢true t);
 }
-test-reads (suc d) = record { was-spelled = deeper-was-spelled d (test-reads d); is-read = deeper-is-read d (test-reads d) }
+test-reads (suc d) = record { was-spelled = by-kind-was-spelled (deeper-kinds d (test-reads d)); is-read = deeper-is-read d (test-reads d) }
 
-action-was-spelled : (bs : List ℕ) (v : Action) (rest : List ℕ) → read-action bs ≡ Some (v, rest) → (act-spelled v ++ rest ≡ bs) × (act-fits v ≡ true)
-unfolding read-action act-spelled act-fits by-kind
-action-was-spelled [] v rest e = nothing-read (v, rest) e
-action-was-spelled (zero ∷ bs) v rest e = given-was-spelled keep act-spelled act-fits (0 ∷ []) refl refl bs v rest e
-action-was-spelled (suc zero ∷ bs) v rest e = made-was-spelled name-reads file act-spelled act-fits (1 ∷ []) (λ n t. refl) (λ n t. t) bs v rest e
-action-was-spelled (suc (suc zero) ∷ bs) v rest e = given-was-spelled away act-spelled act-fits (2 ∷ []) refl refl bs v rest e
-action-was-spelled (suc (suc (suc zero)) ∷ bs) v rest e =
-    made-was-spelled (pair-reads house-reads person-reads) (λ p. on-to (p .0) (p .1)) act-spelled act-fits (3 ∷ []) (λ p t. refl) (λ p t. t) bs v rest e
-action-was-spelled (suc (suc (suc (suc zero))) ∷ bs) v rest e = made-was-spelled mark-reads mark act-spelled act-fits (4 ∷ []) (λ m t. refl) (λ m t. t) bs v rest e
-action-was-spelled (suc (suc (suc (suc (suc zero)))) ∷ bs) v rest e = given-was-spelled halt act-spelled act-fits (5 ∷ []) refl refl bs v rest e
-action-was-spelled (suc (suc (suc (suc (suc (suc k))))) ∷ bs) v rest e = nothing-read (v, rest) e
+the-action-kinds : Kinds act-spelled act-fits 0 action-kinds
+unfolding act-spelled act-fits
+the-action-kinds =
+    given-was-spelled keep act-spelled act-fits (0 ∷ []) refl refl
+    & made-was-spelled name-reads file act-spelled act-fits (1 ∷ []) (λ n t. refl) (λ n t. t)
+    & given-was-spelled away act-spelled act-fits (2 ∷ []) refl refl
+    & made-was-spelled (pair-reads house-reads person-reads) (λ p. on-to (p .0) (p .1)) act-spelled act-fits (3 ∷ []) (λ p t. refl) (λ p t. t)
+    & made-was-spelled mark-reads mark act-spelled act-fits (4 ∷ []) (λ m t. refl) (λ m t. t)
+    & given-was-spelled halt act-spelled act-fits (5 ∷ []) refl refl
+    & no-more-kinds
 
 action-is-read : (v : Action) (rest : List ℕ) → act-fits v ≡ true → read-action (act-spelled v ++ rest) ≡ Some (v, rest)
 unfolding read-action act-spelled act-fits by-kind
@@ -129,7 +121,8 @@ action-is-read (mark m) rest t = made-is-read mark-reads mark m (m ∷ []) rest 
 action-is-read halt rest t = refl
 
 pub action-reads : Reads-spelling read-action act-spelled act-fits
-action-reads = record { was-spelled = action-was-spelled; is-read = action-is-read }
+unfolding read-action
+action-reads = record { was-spelled = by-kind-was-spelled the-action-kinds; is-read = action-is-read }
 
 pub rule-reads : Reads-spelling read-rule rule-spelled rule-fits
 unfolding read-rule

@@ -196,6 +196,7 @@ fn clear(bytes: &[u8]) -> Option<Command<'_>>
     complete(Command::Clear { person, mailbox }, rest)
 }
 
+// The rules stand behind the person, up to the end of the text.
 fn rule_set(bytes: &[u8]) -> Option<Command<'_>>
     ensures { λ r. ⌜ Answers r (whole read-rule-set (now (bytes .entry))) ⌝ }
 {
@@ -203,6 +204,7 @@ fn rule_set(bytes: &[u8]) -> Option<Command<'_>>
     complete(Command::Rules { person, rules }, after_rules(rules)?)
 }
 
+// The test stands behind the box, up to the end of the text.
 fn find(bytes: &[u8]) -> Option<Command<'_>>
     ensures { λ r. ⌜ Answers r (whole read-find (now (bytes .entry))) ⌝ }
 {
@@ -224,6 +226,7 @@ fn push(bytes: &[u8]) -> Option<Command<'_>>
     complete(Command::Push { house }, rest)
 }
 
+// Any command, if all of the text spells it.
 pub fn command(text: &[u8]) -> Option<Command<'_>>
     ensures { λ r. ⌜ Answers r (command-of (now (text .entry))) ⌝ }
 {

@@ -1,6 +1,5 @@
 // The parts that commands are made of. Each function takes one from the front of the bytes and answers it with what follows.
 ghost use mathlib.Core.Path.{_≡_};
-ghost use mathlib.Core.Bool.{_&&_};
 ghost use lib.Dec.{ltb, leb};
 ghost use Rattle.commands.specs.Lent.{and-rest, lent-and-rest};
 ghost use Rattle.commands.specs.Reader.{only, read-number, read-counted, read-name, read-letter, read-house, read-person, read-mark, read-flag};
@@ -69,6 +68,7 @@ fn counted(bytes: &[u8]) -> Option<(&[u8], &[u8])>
     rest.split_at_checked(count as usize)
 }
 
+// Bytes with their count before them, from 1 to 64.
 pub fn name(bytes: &[u8]) -> Option<(&[u8], &[u8])>
     ensures { λ r. ⌜ lent-and-rest r ≡ read-name (now (bytes .entry)) ⌝ }
 {
@@ -79,6 +79,7 @@ pub fn name(bytes: &[u8]) -> Option<(&[u8], &[u8])>
     Some((name, rest))
 }
 
+// Bytes with their count before them, up to 65,000.
 pub fn letter(bytes: &[u8]) -> Option<(&[u8], &[u8])>
     ensures { λ r. ⌜ lent-and-rest r ≡ read-letter (now (bytes .entry)) ⌝ }
 {

@@ -1,3 +1,4 @@
+-- `get` meets its contract.
 use mathlib.Core.Path.{sym, refl}
 use Rattle.commands.proofs.Meanings.{complete-answers}
 use Rattle.commands.proofs.kinds.get.Needs as need

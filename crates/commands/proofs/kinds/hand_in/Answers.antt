@@ -1,3 +1,4 @@
+-- `hand_in` meets its contract.
 use mathlib.Core.Path.{sym, refl}
 use Rattle.commands.proofs.Meanings.{complete-answers}
 use Rattle.commands.proofs.kinds.hand_in.Needs as need

@@ -1,3 +1,4 @@
+-- `list` meets its contract.
 use mathlib.Core.Path.{sym, refl}
 use Rattle.commands.proofs.Meanings.{complete-answers}
 use Rattle.commands.proofs.kinds.list.Needs as need

@@ -1,3 +1,4 @@
+-- `list_count` meets its contract.
 use mathlib.Core.Path.{sym}
 use Rattle.std.proofs.shelf.Tests.{le-leb}
 use Rattle.commands.proofs.kinds.list_count.Needs as need

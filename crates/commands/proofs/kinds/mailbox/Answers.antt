@@ -1,3 +1,4 @@
+-- `mailbox` meets its contract.
 use mathlib.Core.Path.{sym}
 use Rattle.commands.proofs.kinds.mailbox.Needs as need
 

@@ -1,3 +1,4 @@
+-- `set_mark` meets its contract.
 use mathlib.Core.Path.{sym, refl}
 use Rattle.commands.proofs.Meanings.{complete-answers}
 use Rattle.commands.proofs.kinds.set_mark.Needs as need

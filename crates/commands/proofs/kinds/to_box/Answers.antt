@@ -1,3 +1,4 @@
+-- `to_box` meets its contract.
 use mathlib.Core.Path.{sym, refl}
 use Rattle.commands.proofs.Meanings.{complete-answers}
 use Rattle.commands.proofs.kinds.to_box.Needs as need

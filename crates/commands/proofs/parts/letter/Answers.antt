@@ -1,3 +1,4 @@
+-- `letter` meets its contract.
 use borrow.Author.Needs.{needs}
 use Rattle.commands.specs.Reader.{read-letter}
 use Rattle.commands.proofs.Bytes.{all-bytes-typed}

@@ -1,3 +1,4 @@
+-- `mark` meets its contract.
 use borrow.Author.Needs.{needs}
 use Rattle.std.proofs.shelf.Tests.{lt-ltb, le-ltb}
 use Rattle.commands.specs.Reader.{read-mark, read-byte}

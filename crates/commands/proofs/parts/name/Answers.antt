@@ -1,3 +1,4 @@
+-- `name` meets its contract.
 use mathlib.Core.Path.{sym, _∙_}
 use mathlib.Core.Logic.{inl, inr}
 use borrow.Author.Needs.{needs}

@@ -1,3 +1,4 @@
+-- `number` meets its contract.
 use mathlib.Core.Path.{sym}
 use Rattle.commands.proofs.Bytes.{all-bytes-typed}
 use Rattle.commands.proofs.Laws.{number-short, number-there}

@@ -1,3 +1,4 @@
+-- `number_below` meets its contract.
 use mathlib.Core.Path.{sym}
 use Rattle.std.proofs.shelf.Tests.{lt-ltb, le-ltb}
 use Rattle.commands.proofs.parts.number_below.Needs as need

@@ -1,3 +1,4 @@
+-- `number_up_to` meets its contract.
 use mathlib.Core.Path.{sym}
 use Rattle.std.proofs.shelf.Tests.{le-leb, lt-leb}
 use Rattle.commands.proofs.parts.number_up_to.Needs as need

@@ -1,3 +1,4 @@
+-- `after_address` meets its contract.
 use mathlib.Core.Path.{sym}
 use Rattle.commands.proofs.rules.after_address.Needs as need
 

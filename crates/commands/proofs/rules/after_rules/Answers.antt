@@ -1,3 +1,4 @@
+-- `after_rules` meets its contract.
 use borrow.Author.Needs.{needs}
 use Rattle.commands.specs.Lent.{left-after}
 use Rattle.commands.specs.Reader.{listed, read-rules, read-rule}

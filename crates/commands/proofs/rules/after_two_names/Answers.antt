@@ -1,3 +1,4 @@
+-- `after_two_names` meets its contract.
 use mathlib.Core.Path.{sym}
 use Rattle.commands.proofs.rules.after_two_names.Needs as need
 

@@ -4,7 +4,22 @@ pub mod bytes;
 pub mod places;
 pub mod selectors;
 
+ghost use Rattle.pages.specs.Commit.{Commit-atomic, Blank-kept};
+
 pub const PAGE_WORDS: usize = 64;
+
+// Whatever is kept: a commit that is cut off anywhere, with any of the writes that waited there, half there or not, leaves all as before or all
+// as after; before the header is written all as before, and after the last flush all as after.
+pub fn commit_atomic()
+    ensures { λ _. ⌜ Commit-atomic ⌝ }
+{
+}
+
+// Pages of zeros keep the first image, so a new file is a house at once.
+pub fn blank_kept()
+    ensures { λ _. ⌜ Blank-kept ⌝ }
+{
+}
 
 #[cfg(test)]
 mod tests {

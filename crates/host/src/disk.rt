@@ -103,9 +103,9 @@ pub impl From<io::Error> for OpenError as IoOpenError {
 pub impl fmt::Display for OpenError as OpenErrorDisplay {
     fn fmt<W: fmt::Write>(&self, f: &mut fmt::Formatter<W>) -> fmt::Result {
         match self {
-            OpenError::Io(e) => write!(f, "{e}"),
+            OpenError::Io(e) => write!(f, "{e}; it must be a file of pages that may be read and written, or a new name in a folder that is there"),
             OpenError::NotPages(len) => write!(f, "it has {len} bytes, which is not a number of pages of 512 bytes: is it another file?"),
-            OpenError::Pages(pages) => write!(f, "{pages} pages: a house has 256 to 1048576"),
+            OpenError::Pages(pages) => write!(f, "{pages} pages of 512 bytes, but a house has 256 to 1048576: name another file"),
         }
     }
 }

@@ -2,8 +2,8 @@
 use mathlib.Core.Path.{_≡_, refl, sym, _∙_, ap, subst}
 use mathlib.Core.Bool.{Bool, true, false, false≢true}
 use mathlib.Core.List.{List, [], _++_}
-use Prim.Native.Nat.{ℕ, _≤_}
-use lib.ListN.{length, take}
+use Prim.Native.Nat.{ℕ, _+_, _*_, _≤_}
+use lib.ListN.{length, take, drop}
 use Rattle.std.proofs.shelf.Lists.{take-at}
 use borrow.Author.Tests.{eq-eqb, le-leb}
 use Rattle.model.specs.Run.{Engine, Event, said, page, next, lost, Act, read, write, flush, shows, send, done, refused, Step}
@@ -14,23 +14,23 @@ use Rattle.house.specs.Entry.{Act-told, Step-says, step-fits, event-of}
 use Rattle.house.proofs.Taken.{start-length}
 use Rattle.host.specs.declared.machine.Ended.{Ended}
 use Rattle.host.specs.declared.machine.Ended.the-variants.{Done as Is-done, Refused}
-use Rattle.host.specs.Goes.{Answers, Goes, at-done, at-refused, on-from, Told-by, After, Ends}
+use Rattle.host.specs.Goes.{Means, Did, Goes, at-done, at-refused, on-from, Told-by, After, Ends}
 
 -- a step on a memory of the right length and a long enough row is a step of the definition
-pub told-by : (m : List ℕ) (kind : ℕ) (bytes out : List ℕ) (r : Told) (m₁ out₁ : List ℕ) → length m ≡ 262144 → kind ≤ 5 → 131072 ≤ length out
-  → Step-says m kind bytes out (step-fits m kind bytes out) r m₁ out₁ → Told-by m (event-of kind bytes) r m₁
+told-by : (m : List ℕ) (kind : ℕ) (bytes row : List ℕ) (r : Told) (m₁ row₁ : List ℕ) → length m ≡ 262144 → kind ≤ 5 → 131072 ≤ length row
+  → Step-says m kind bytes row (step-fits m kind bytes row) r m₁ row₁ → Told-by m row (event-of kind bytes) r m₁ row₁
 unfolding Step-says step-fits
-told-by m kind bytes out r m₁ out₁ l k o says =
-  let fits : step-fits m kind bytes out ≡ true = rw (eq-eqb (length m) (length (own .start)) (l ∙ sym start-length), le-leb kind 5 k, le-leb 131072 (length out) o) in
-  let q : Step-says m kind bytes out true r m₁ out₁ = subst (λ b. Step-says m kind bytes out b r m₁ out₁) fits says in
-  (q .0, (out, out₁, q .1))
+told-by m kind bytes row r m₁ row₁ l k o says =
+  let fits : step-fits m kind bytes row ≡ true = rw (eq-eqb (length m) (length (own .start)) (l ∙ sym start-length), le-leb kind 5 k, le-leb 131072 (length row) o) in
+  subst (λ b. Step-says m kind bytes row b r m₁ row₁) fits says
 
--- the same where memory is lent from a row of numbers and comes back to it
-pub told-lent : (m ms : List ℕ) (n kind : ℕ) (bytes out : List ℕ) (r : Told) (m₁ out₁ rest : List ℕ) → ms ≡ m → length ms ≡ 262144 → kind ≤ 5 → 131072 ≤ length out → length m₁ ≡ n
-  → Step-says ms kind bytes out (step-fits ms kind bytes out) r m₁ out₁ → Told-by m (event-of kind bytes) r (take n (m₁ ++ rest))
-told-lent m ms n kind bytes out r m₁ out₁ rest e l k o n₁ says =
-  let t : Told-by ms (event-of kind bytes) r m₁ = told-by ms kind bytes out r m₁ out₁ l k o says in
-  subst (λ x. Told-by x (event-of kind bytes) r (take n (m₁ ++ rest))) e (take-at m₁ rest n n₁ ∙ t .0, t .1)
+-- the same where memory and row are lent, and come back
+pub told-lent : (m ms row rs : List ℕ) (n k kind : ℕ) (bytes : List ℕ) (r : Told) (m₁ row₁ rest more : List ℕ) → ms ≡ m → rs ≡ row → length ms ≡ 262144 → kind ≤ 5 → 131072 ≤ length rs
+  → length m₁ ≡ n → length row₁ ≡ k → Step-says ms kind bytes rs (step-fits ms kind bytes rs) r m₁ row₁ → Told-by m row (event-of kind bytes) r (take n (m₁ ++ rest)) (take k (row₁ ++ more))
+told-lent m ms row rs n k kind bytes r m₁ row₁ rest more em er l b o n₁ k₁ says =
+  let t : Told-by ms rs (event-of kind bytes) r m₁ row₁ = told-by ms kind bytes rs r m₁ row₁ l b o says in
+  let u : Told-by m row (event-of kind bytes) r m₁ row₁ = subst (λ x. Told-by m x (event-of kind bytes) r m₁ row₁) er (subst (λ x. Told-by x rs (event-of kind bytes) r m₁ row₁) em t) in
+  subst (λ x. Told-by m row (event-of kind bytes) r (take n (m₁ ++ rest)) x) (sym (take-at row₁ more k k₁)) (subst (λ x. Told-by m row (event-of kind bytes) r x row₁) (sym (take-at m₁ rest n n₁)) u)
 
 -- what the kinds of events tell
 pub said-is : (bs : List ℕ) → event-of 1 bs ≡ said bs
@@ -50,11 +50,8 @@ unfolding event-of
 lost-is bs = refl
 
 -- told of an event by another name
-pub told-as : (m : List ℕ) (ev ev₁ : Event) (r : Told) (m₁ : List ℕ) → ev ≡ ev₁ → Told-by m ev r m₁ → Told-by m ev₁ r m₁
-told-as m ev ev₁ r m₁ e t = subst (λ x. Told-by m x r m₁) e t
-
-pub after-as : (told told′ : Told) (m : List ℕ) (r : Told) (m₁ : List ℕ) → told ≡ told′ → After told′ m r m₁ → After told m r m₁
-after-as told told′ m r m₁ e a = subst (λ x. After x m r m₁) (sym e) a
+pub told-as : (m row : List ℕ) (ev ev₁ : Event) (r : Told) (m₁ row₁ : List ℕ) → ev ≡ ev₁ → Told-by m row ev r m₁ row₁ → Told-by m row ev₁ r m₁ row₁
+told-as m row ev ev₁ r m₁ row₁ e t = subst (λ x. Told-by m row x r m₁ row₁) e t
 
 is-done : Told → Bool
 is-done (Read k) = false
@@ -104,42 +101,77 @@ refused-act (send d l) n out out₁ h = absurd (false≢true (sym (ap is-no (h .
 refused-act done n out out₁ h = absurd (false≢true (sym (ap is-no (h .0))))
 refused-act (refused k) n out out₁ h = ap refused (sym (ap number-of (h .0)))
 
-pub ends-done : (told : Told) (m : List ℕ) → told ≡ Done → Ends told m Is-done m
-ends-done told m e = subst (λ x. Ends x m Is-done m) (sym e) (λ m₀ ev t. at-done (done-act (own .step m₀ ev .act) (t .1 .0) (t .1 .1) (t .1 .2)) (t .0))
+module _ {D R : Type 0} (w : Means D R) where
+  -- what came of an act, by the act that the house asked for
+  module _ (told : Told) (m row : List ℕ) (d : D) (r : R) (t : Told) (m₁ row₁ : List ℕ) where
+    after-as : (told′ : Told) (d₁ : D) (r₁ : R) → told ≡ told′ → After w told′ m row d r t m₁ row₁ d₁ r₁ → After w told m row d r t m₁ row₁ d₁ r₁
+    after-as told′ d₁ r₁ e a = subst (λ x. After w x m row d r t m₁ row₁ d₁ r₁) (sym e) a
 
-pub ends-refused : (told : Told) (n : ℕ) (m : List ℕ) → told ≡ No n → Ends told m (Refused n) m
-ends-refused told n m e = subst (λ x. Ends x m (Refused n) m) (sym e) (λ m₀ ev t. at-refused n (refused-act (own .step m₀ ev .act) n (t .1 .0) (t .1 .1) (t .1 .2)) (t .0))
+    -- the page was lent, and came back
+    pub after-read : (k n : ℕ) (into rest : List ℕ) (d₁ : D) → told ≡ Read k → length into ≡ 512 → length into ≡ n → w .gave d k into d₁
+      → Told-by m row (page (take n (into ++ rest))) t m₁ row₁ → After w told m row d r t m₁ row₁ d₁ r
+    after-read k n into rest d₁ e l ln g u = after-as (Read k) d₁ r e (into, l, g, refl, told-as m row _ _ t m₁ row₁ (ap page (take-at into rest n ln)) u)
 
--- one act more: what ends from after it, ends from before it
-module _ (m m₁ m′ : List ℕ) (end : Ended) (told₁ : Told) (ends : Ends told₁ m₁ end m′) where
-  -- the house was told of the act, and went on from there
-  goes-on : (m₀ : List ℕ) (ev ev₁ : Event) → Answers (own .step m₀ ev .act) ev₁ → m ≡ own .step m₀ ev .memory → Told-by m ev₁ told₁ m₁ → Goes m₀ ev end m′
-  goes-on m₀ ev ev₁ a e t = on-from ev₁ a (subst (λ x. Goes x ev₁ end m′) e (ends m ev₁ t))
+    pub after-write : (k : ℕ) (part : List ℕ) (d₁ : D) (ev : Event) → told ≡ Write k → part ≡ take 512 row → w .took d k part d₁ → ev ≡ next
+      → Told-by m row ev t m₁ row₁ → After w told m row d r t m₁ row₁ d₁ r
+    after-write k part d₁ ev e p g n u = after-as (Write k) d₁ r e (subst (λ x. w .took d k x d₁) p g, refl, told-as m row ev next t m₁ row₁ n u)
 
-  -- there was nothing to be told
-  stays : (told : Told) (m₀ : List ℕ) (ev : Event) → told ≡ told₁ → m ≡ m₁ → Told-by m₀ ev told m → Goes m₀ ev end m′
-  stays told m₀ ev r e t = ends m₀ ev (subst (λ x. Told-by m₀ ev told₁ x) e (subst (λ x. Told-by m₀ ev x m) r t))
+    pub after-flush : (d₁ : D) (ev : Event) → told ≡ Flush → w .kept d d₁ → ev ≡ next → Told-by m row ev t m₁ row₁ → After w told m row d r t m₁ row₁ d₁ r
+    after-flush d₁ ev e g n u = after-as Flush d₁ r e (g, refl, told-as m row ev next t m₁ row₁ n u)
 
-  by-act : (a : Act) (told : Told) (out out₁ : List ℕ) (m₀ : List ℕ) (ev : Event) → Act-told a told out out₁ → After told m told₁ m₁ → own .step m₀ ev .act ≡ a
-    → Told-by m₀ ev told m → Goes m₀ ev end m′
-  unfolding Act-told
-  by-act (read k) told out out₁ m₀ ev h aft e t =
-    let p : After (Read k) m told₁ m₁ = subst (λ r. After r m told₁ m₁) (h .0) aft in
-    goes-on m₀ ev (page (p .0)) (subst (λ a. Answers a (page (p .0))) (sym e) (p .0, refl, p .1)) (t .0) (p .2)
-  by-act (write k q) told out out₁ m₀ ev h aft e t =
-    goes-on m₀ ev next (subst (λ a. Answers a next) (sym e) refl) (t .0) (subst (λ r. After r m told₁ m₁) (h .0) aft)
-  by-act flush told out out₁ m₀ ev h aft e t =
-    goes-on m₀ ev next (subst (λ a. Answers a next) (sym e) refl) (t .0) (subst (λ r. After r m told₁ m₁) (h .0) aft)
-  by-act (shows s) told out out₁ m₀ ev h aft e t =
-    goes-on m₀ ev next (subst (λ a. Answers a next) (sym e) refl) (t .0) (subst (λ r. After r m told₁ m₁) (h .0) aft)
-  by-act (send d l) told out out₁ m₀ ev h aft e t =
-    goes-on m₀ ev lost (subst (λ a. Answers a lost) (sym e) refl) (t .0) (subst (λ r. After r m told₁ m₁) (h .0) aft)
-  by-act done told out out₁ m₀ ev h aft e t =
-    let p : After Done m told₁ m₁ = subst (λ r. After r m told₁ m₁) (h .0) aft in
-    stays told m₀ ev (h .0 ∙ sym (p .0)) (sym (p .1)) t
-  by-act (refused k) told out out₁ m₀ ev h aft e t =
-    let p : After (No k) m told₁ m₁ = subst (λ r. After r m told₁ m₁) (h .0) aft in
-    stays told m₀ ev (h .0 ∙ sym (p .0)) (sym (p .1)) t
+    pub after-shows : (n : ℕ) (part : List ℕ) (r₁ : R) (ev : Event) → told ≡ Shows n → part ≡ take n row → w .showed r part r₁ → ev ≡ next
+      → Told-by m row ev t m₁ row₁ → After w told m row d r t m₁ row₁ d r₁
+    after-shows n part r₁ ev e p g q u = after-as (Shows n) d r₁ e (subst (λ x. w .showed r x r₁) p g, refl, told-as m row ev next t m₁ row₁ q u)
 
-  pub earlier : (told : Told) → After told m told₁ m₁ → Ends told m end m′
-  earlier told aft m₀ ev t = by-act (own .step m₀ ev .act) told (t .1 .0) (t .1 .1) m₀ ev (t .1 .2) aft refl t
+    pub after-send : (n : ℕ) (ev : Event) → told ≡ Send n → ev ≡ lost → Told-by m row ev t m₁ row₁ → After w told m row d r t m₁ row₁ d r
+    after-send n ev e q u = after-as (Send n) d r e (refl, refl, told-as m row ev lost t m₁ row₁ q u)
+
+  pub ends-done : (told : Told) (m row : List ℕ) (d : D) (r : R) → told ≡ Done → Ends w told m row d r Is-done m d r
+  ends-done told m row d r e =
+    subst (λ x. Ends w x m row d r Is-done m d r) (sym e) (λ m₀ row₀ ev t. at-done (done-act (own .step m₀ ev .act) row₀ row (t .1)) (t .0))
+
+  pub ends-refused : (told : Told) (n : ℕ) (m row : List ℕ) (d : D) (r : R) → told ≡ No n → Ends w told m row d r (Refused n) m d r
+  ends-refused told n m row d r e =
+    subst (λ x. Ends w x m row d r (Refused n) m d r) (sym e) (λ m₀ row₀ ev t. at-refused n (refused-act (own .step m₀ ev .act) n row₀ row (t .1)) (t .0))
+
+  -- one act more: what ends from after it, ends from before it
+  module _ (m row m₁ row₁ m′ : List ℕ) (d d₁ d′ : D) (r r₁ r′ : R) (end : Ended) (told₁ : Told) (ends : Ends w told₁ m₁ row₁ d₁ r₁ end m′ d′ r′) where
+    -- the house was told of the act, and went on from there
+    goes-on : (m₀ : List ℕ) (ev ev₁ : Event) → Did w (own .step m₀ ev .act) d r ev₁ d₁ r₁ → m ≡ own .step m₀ ev .memory → Told-by m row ev₁ told₁ m₁ row₁ → Goes w m₀ d r ev end m′ d′ r′
+    goes-on m₀ ev ev₁ a e t = on-from d₁ r₁ ev₁ a (subst (λ x. Goes w x d₁ r₁ ev₁ end m′ d′ r′) e (ends m row ev₁ t))
+
+    -- there was nothing to be told
+    stays : (told : Told) (m₀ row₀ : List ℕ) (ev : Event) → told ≡ told₁ → m ≡ m₁ → row ≡ row₁ → d₁ ≡ d → r₁ ≡ r → Told-by m₀ row₀ ev told m row → Goes w m₀ d r ev end m′ d′ r′
+    stays told m₀ row₀ ev t e f ed er u =
+      subst (λ x. Goes w m₀ x r ev end m′ d′ r′) ed (subst (λ x. Goes w m₀ d₁ x ev end m′ d′ r′) er
+        (ends m₀ row₀ ev (subst (λ x. Told-by m₀ row₀ ev told₁ m₁ x) f (subst (λ x. Told-by m₀ row₀ ev told₁ x row) e (subst (λ x. Told-by m₀ row₀ ev x m row) t u)))))
+
+    by-act : (a : Act) (told : Told) (m₀ row₀ : List ℕ) (ev : Event) → Act-told a told row₀ row → After w told m row d r told₁ m₁ row₁ d₁ r₁ → own .step m₀ ev .act ≡ a
+      → Told-by m₀ row₀ ev told m row → Goes w m₀ d r ev end m′ d′ r′
+    unfolding Act-told
+    by-act (read k) told m₀ row₀ ev h aft e t =
+      let p : After w (Read k) m row d r told₁ m₁ row₁ d₁ r₁ = subst (λ x. After w x m row d r told₁ m₁ row₁ d₁ r₁) (h .0) aft in
+      goes-on m₀ ev (page (p .0)) (subst (λ x. Did w x d r (page (p .0)) d₁ r₁) (sym e) (p .0, refl, p .1, p .2, p .3)) (t .0) (p .4)
+    by-act (write k q) told m₀ row₀ ev h aft e t =
+      let p : After w (Write k) m row d r told₁ m₁ row₁ d₁ r₁ = subst (λ x. After w x m row d r told₁ m₁ row₁ d₁ r₁) (h .0) aft in
+      let same : length q ≡ 512 → take 512 row ≡ q = λ l. ap (take 512) (h .1) ∙ take-at q (drop (length q) row₀) 512 l in
+      goes-on m₀ ev next (subst (λ x. Did w x d r next d₁ r₁) (sym e) (refl, (λ l. subst (λ x. w .took d k x d₁) (same l) (p .0)), p .1)) (t .0) (p .2)
+    by-act flush told m₀ row₀ ev h aft e t =
+      let p : After w Flush m row d r told₁ m₁ row₁ d₁ r₁ = subst (λ x. After w x m row d r told₁ m₁ row₁ d₁ r₁) (h .0) aft in
+      goes-on m₀ ev next (subst (λ x. Did w x d r next d₁ r₁) (sym e) (refl, p .0, p .1)) (t .0) (p .2)
+    by-act (shows s) told m₀ row₀ ev h aft e t =
+      let p : After w (Shows (length s)) m row d r told₁ m₁ row₁ d₁ r₁ = subst (λ x. After w x m row d r told₁ m₁ row₁ d₁ r₁) (h .0) aft in
+      let same : take (length s) row ≡ s = ap (take (length s)) (h .1) ∙ take-at s (drop (length s) row₀) (length s) refl in
+      goes-on m₀ ev next (subst (λ x. Did w x d r next d₁ r₁) (sym e) (refl, p .1, subst (λ x. w .showed r x r₁) same (p .0))) (t .0) (p .2)
+    by-act (send c l) told m₀ row₀ ev h aft e t =
+      let p : After w (Send (4097 * c + length l)) m row d r told₁ m₁ row₁ d₁ r₁ = subst (λ x. After w x m row d r told₁ m₁ row₁ d₁ r₁) (h .0) aft in
+      goes-on m₀ ev lost (subst (λ x. Did w x d r lost d₁ r₁) (sym e) (refl, p .0, p .1)) (t .0) (p .2)
+    by-act done told m₀ row₀ ev h aft e t =
+      let p : After w Done m row d r told₁ m₁ row₁ d₁ r₁ = subst (λ x. After w x m row d r told₁ m₁ row₁ d₁ r₁) (h .0) aft in
+      stays told m₀ row₀ ev (h .0 ∙ sym (p .0)) (sym (p .1)) (sym (p .2)) (p .3) (p .4) t
+    by-act (refused k) told m₀ row₀ ev h aft e t =
+      let p : After w (No k) m row d r told₁ m₁ row₁ d₁ r₁ = subst (λ x. After w x m row d r told₁ m₁ row₁ d₁ r₁) (h .0) aft in
+      stays told m₀ row₀ ev (h .0 ∙ sym (p .0)) (sym (p .1)) (sym (p .2)) (p .3) (p .4) t
+
+    pub earlier : (told : Told) → After w told m row d r told₁ m₁ row₁ d₁ r₁ → Ends w told m row d r end m′ d′ r′
+    earlier told aft m₀ row₀ ev t = by-act (own .step m₀ ev .act) told m₀ row₀ ev (t .1) aft refl t

@@ -16,7 +16,7 @@ use Rattle.house.specs.declared.Told.{Told}
 use Rattle.house.proofs.Taken.{start-length}
 use Rattle.house.proofs.Whole.{steady}
 use Rattle.host.specs.declared.machine.Ended.{Ended}
-use Rattle.host.specs.Goes.{Goes, Told-by, Ends}
+use Rattle.host.specs.Goes.{Means, Goes, Told-by, Ends}
 
 -- the bytes of a number of 64 bits, the highest first
 abbrev be-bytes : ℕ → List ℕ
@@ -55,8 +55,12 @@ start-is : (n : ℕ) → n ≡ 262144 → replicate n 0 ≡ own .start
 unfolding Steady
 start-is n e = ap (λ k. replicate k 0) (e ∙ sym start-length) ∙ all-zero (own .start) (steady .1)
 
+-- the memory of a house without power
+pub at-start : (m : List ℕ) (n : ℕ) → m ≡ replicate n 0 → n ≡ 262144 → m ≡ own .start
+at-start m n e k = e ∙ start-is n k
+
 -- from power to the end of what the house does then
-pub wakes : (m m₁ m′ : List ℕ) (k : ℕ) (ev : Event) (told : Told) (end : Ended) (h n p q : ℕ) → m ≡ replicate k 0 → k ≡ 262144 → ev ≡ on h n p → p ≡ q
-  → Told-by m ev told m₁ → Ends told m₁ end m′ → Goes (own .start) (on h n q) end m′
-wakes m m₁ m′ k ev told end h n p q em ek ee ep t ends =
-  subst (λ x. Goes x (on h n q) end m′) (em ∙ start-is k ek) (subst (λ x. Goes m x end m′) (ee ∙ ap (on h n) ep) (ends m ev t))
+pub wakes : {D R : Type 0} (w : Means D R) (m row m₁ row₁ m′ : List ℕ) (d d′ : D) (r r′ : R) (ev : Event) (told : Told) (end : Ended) (h n p q : ℕ) → m ≡ own .start → ev ≡ on h n p → p ≡ q
+  → Told-by m row ev told m₁ row₁ → Ends w told m₁ row₁ d r end m′ d′ r′ → Goes w (own .start) d r (on h n q) end m′ d′ r′
+wakes w m row m₁ row₁ m′ d d′ r r′ ev told end h n p q em ee ep t ends =
+  subst (λ x. Goes w x d r (on h n q) end m′ d′ r′) em (subst (λ x. Goes w m d r x end m′ d′ r′) (ee ∙ ap (on h n) ep) (ends m row ev t))

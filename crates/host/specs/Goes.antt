@@ -1,8 +1,9 @@
--- How a command goes at a house that a host does the acts of: from a memory and an event, step by step, to its end.
+-- How a command goes at a house that a host does the acts of: from a memory and an event, act by act, to its end. The host has a disk of pages and a
+-- place for rows, and says itself what it is to read, to write and to keep pages, and to show a row: relations between what was before and after.
 use mathlib.Core.Path.{_≡_}
 use mathlib.Core.List.{List}
 use Prim.Native.Nat.{ℕ}
-use lib.ListN.{length}
+use lib.ListN.{length, take}
 use Rattle.model.specs.Run.{Engine, Event, page, next, lost, Act, read, write, flush, shows, send, done, refused, Step}
 use Rattle.house.specs.declared.Told.{Told}
 use Rattle.house.specs.declared.Told.the-variants.{Read, Write, Flush, Shows, Send, Done, No}
@@ -11,36 +12,47 @@ use Rattle.house.specs.Entry.{Act-told}
 use Rattle.host.specs.declared.machine.Ended.{Ended}
 use Rattle.host.specs.declared.machine.Ended.the-variants.{Done as Is-done, Refused}
 
--- what the house is told when an act was done: a page if it asked for one; there is no line; after its end nothing
-abbrev pub Answers : Act → Event → Type 0
-Answers (read k) ev = (p : List ℕ) × (ev ≡ page p) × (length p ≡ 512)
-Answers (write k p) ev = ev ≡ next
-Answers flush ev = ev ≡ next
-Answers (shows s) ev = ev ≡ next
-Answers (send d l) ev = ev ≡ lost
-Answers done ev = ⊥
-Answers (refused k) ev = ⊥
+-- what a disk and a place for rows mean by their work
+pub record Means (D R : Type 0) : Type 1 where
+  pub gave : D → ℕ → List ℕ → D → Type 0      -- read: a page of it holds these bytes
+  pub took : D → ℕ → List ℕ → D → Type 0      -- wrote: a page of it is to hold these bytes
+  pub kept : D → D → Type 0                   -- flushed
+  pub showed : R → List ℕ → R → Type 0
 
--- from a memory and an event the command ends so, with this memory
-pub data Goes : List ℕ → Event → Ended → List ℕ → Type 0 where
-  at-done : {m m′ : List ℕ} {ev : Event} → own .step m ev .act ≡ done → m′ ≡ own .step m ev .memory → Goes m ev Is-done m′
-  at-refused : {m m′ : List ℕ} {ev : Event} (k : ℕ) → own .step m ev .act ≡ refused k → m′ ≡ own .step m ev .memory → Goes m ev (Refused k) m′
-  on-from : {m m′ : List ℕ} {ev : Event} {end : Ended} (ev₁ : Event) → Answers (own .step m ev .act) ev₁ → Goes (own .step m ev .memory) ev₁ end m′ → Goes m ev end m′
+abbrev pub means : {D R : Type 0} → (D → ℕ → List ℕ → D → Type 0) → (D → ℕ → List ℕ → D → Type 0) → (D → D → Type 0) → (R → List ℕ → R → Type 0) → Means D R
+means g t k s = record { gave = g; took = t; kept = k; showed = s }
 
--- an event at this memory is answered by this act, and leaves this memory
-abbrev pub Told-by : List ℕ → Event → Told → List ℕ → Type 0
-Told-by m ev told m₁ = (m₁ ≡ own .step m ev .memory) × ((out : List ℕ) × (out₁ : List ℕ) × Act-told (own .step m ev .act) told out out₁)
+-- an act was done, and this is what the house is told of it. There is no line; after its end nothing is done
+abbrev pub Did : {D R : Type 0} → Means D R → Act → D → R → Event → D → R → Type 0
+Did w (read k) d r ev d₁ r₁ = (p : List ℕ) × (ev ≡ page p) × (length p ≡ 512) × w .gave d k p d₁ × (r₁ ≡ r)
+Did w (write k p) d r ev d₁ r₁ = (ev ≡ next) × (length p ≡ 512 → w .took d k p d₁) × (r₁ ≡ r)
+Did w flush d r ev d₁ r₁ = (ev ≡ next) × w .kept d d₁ × (r₁ ≡ r)
+Did w (shows s) d r ev d₁ r₁ = (ev ≡ next) × (d₁ ≡ d) × w .showed r s r₁
+Did w (send c l) d r ev d₁ r₁ = (ev ≡ lost) × (d₁ ≡ d) × (r₁ ≡ r)
+Did w done d r ev d₁ r₁ = ⊥
+Did w (refused k) d r ev d₁ r₁ = ⊥
+
+-- from a memory, a disk, rows and an event the command ends so, and leaves these
+pub data Goes {D R : Type 0} (w : Means D R) : List ℕ → D → R → Event → Ended → List ℕ → D → R → Type 0 where
+  at-done : {m m′ : List ℕ} {d : D} {r : R} {ev : Event} → own .step m ev .act ≡ done → m′ ≡ own .step m ev .memory → Goes w m d r ev Is-done m′ d r
+  at-refused : {m m′ : List ℕ} {d : D} {r : R} {ev : Event} (k : ℕ) → own .step m ev .act ≡ refused k → m′ ≡ own .step m ev .memory → Goes w m d r ev (Refused k) m′ d r
+  on-from : {m m′ : List ℕ} {d d′ : D} {r r′ : R} {ev : Event} {end : Ended} (d₁ : D) (r₁ : R) (ev₁ : Event)
+    → Did w (own .step m ev .act) d r ev₁ d₁ r₁ → Goes w (own .step m ev .memory) d₁ r₁ ev₁ end m′ d′ r′ → Goes w m d r ev end m′ d′ r′
+
+-- an event at this memory is answered by this act, and leaves this memory and this row
+abbrev pub Told-by : List ℕ → List ℕ → Event → Told → List ℕ → List ℕ → Type 0
+Told-by m row ev told m₁ row₁ = (m₁ ≡ own .step m ev .memory) × Act-told (own .step m ev .act) told row row₁
 
 -- an act was done and the house was told so: what it answered then
-abbrev pub After : Told → List ℕ → Told → List ℕ → Type 0
-After (Read k) m told m₁ = (p : List ℕ) × (length p ≡ 512) × Told-by m (page p) told m₁
-After (Write k) m told m₁ = Told-by m next told m₁
-After Flush m told m₁ = Told-by m next told m₁
-After (Shows n) m told m₁ = Told-by m next told m₁
-After (Send n) m told m₁ = Told-by m lost told m₁
-After Done m told m₁ = (told ≡ Done) × (m₁ ≡ m)
-After (No k) m told m₁ = (told ≡ No k) × (m₁ ≡ m)
+abbrev pub After : {D R : Type 0} → Means D R → Told → List ℕ → List ℕ → D → R → Told → List ℕ → List ℕ → D → R → Type 0
+After w (Read k) m row d r told m₁ row₁ d₁ r₁ = (p : List ℕ) × (length p ≡ 512) × w .gave d k p d₁ × (r₁ ≡ r) × Told-by m row (page p) told m₁ row₁
+After w (Write k) m row d r told m₁ row₁ d₁ r₁ = w .took d k (take 512 row) d₁ × (r₁ ≡ r) × Told-by m row next told m₁ row₁
+After w Flush m row d r told m₁ row₁ d₁ r₁ = w .kept d d₁ × (r₁ ≡ r) × Told-by m row next told m₁ row₁
+After w (Shows n) m row d r told m₁ row₁ d₁ r₁ = w .showed r (take n row) r₁ × (d₁ ≡ d) × Told-by m row next told m₁ row₁
+After w (Send n) m row d r told m₁ row₁ d₁ r₁ = (d₁ ≡ d) × (r₁ ≡ r) × Told-by m row lost told m₁ row₁
+After w Done m row d r told m₁ row₁ d₁ r₁ = (told ≡ Done) × (m₁ ≡ m) × (row₁ ≡ row) × (d₁ ≡ d) × (r₁ ≡ r)
+After w (No k) m row d r told m₁ row₁ d₁ r₁ = (told ≡ No k) × (m₁ ≡ m) × (row₁ ≡ row) × (d₁ ≡ d) × (r₁ ≡ r)
 
--- from an act and the memory that it left: whatever led to them comes to this end
-abbrev pub Ends : Told → List ℕ → Ended → List ℕ → Type 0
-Ends told m end m′ = (m₀ : List ℕ) (ev : Event) → Told-by m₀ ev told m → Goes m₀ ev end m′
+-- from an act and what it left: whatever led there comes to this end
+abbrev pub Ends : {D R : Type 0} → Means D R → Told → List ℕ → List ℕ → D → R → Ended → List ℕ → D → R → Type 0
+Ends w told m row d r end m′ d′ r′ = (m₀ row₀ : List ℕ) (ev : Event) → Told-by m₀ row₀ ev told m row → Goes w m₀ d r ev end m′ d′ r′

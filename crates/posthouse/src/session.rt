@@ -13,13 +13,15 @@ use std::io;
 use std::io::BufRead;
 use std::io::BufReader;
 
-// Rows go to standard output, in hexadecimal.
+// Rows go to standard output, in hexadecimal; no contract can say what is printed.
 #[derive(Drop)]
 struct Printed<'a> {
     rt: &'a LibcRuntime,
 }
 
 impl Rows for Printed<'_> as PrintedRows {
+    ghost showed = { λ _ _ _. Unit {0} };
+
     fn show(&mut self, row: &[u8]) -> io::Result<()> {
         let text = to_hex(self.rt.alloc(), row)?;
         self.rt.println(text.as_str())

@@ -70,7 +70,7 @@ impl PageFile {
         requires { ⌜ page < now self .pages ⌝ }
         ensures { λ r. ⌜ (r ≡ 512 * page) × (r + 512 ≤ 512 * now (self .entry) .pages) ⌝ }
     {
-        PAGE_BYTES * page
+        page * PAGE_BYTES
     }
 }
 
@@ -164,5 +164,49 @@ impl PageFile {
         file.set_len(PAGE_BYTES * pages)?;
         file.sync_all()?;
         Ok(PageFile { file, pages })
+    }
+}
+
+#[cfg(test)]
+mod tests {
+    use super::*;
+    use std::test::*;
+
+    const FILE: &str = "pages.test";
+
+    // What opening a file of so many bytes says.
+    fn opened(rt: &LibcRuntime, len: u64) -> Result<Result<PageFile, OpenError>, Fail> {
+        let file = File::create(rt, FILE)?;
+        file.set_len(len)?;
+        Ok(PageFile::open(rt, FILE))
+    }
+
+    #[test]
+    fn files_that_are_refused(rt: LibcRuntime) -> Result<(), Fail> {
+        check(matches!(opened(&rt, 131_073)?, Err(OpenError::NotPages(131_073))))?;
+        check(matches!(opened(&rt, 0)?, Err(OpenError::Pages(0))))?;
+        check(matches!(opened(&rt, 130_560)?, Err(OpenError::Pages(255))))?;
+        check(matches!(PageFile::create(&rt, FILE, 256), Err(OpenError::Io(_))))?;
+        fs::remove_file(&rt, FILE)?;
+        check(matches!(PageFile::open(&rt, FILE), Err(OpenError::Io(_))))?;
+        check(matches!(PageFile::create(&rt, FILE, 255), Err(OpenError::Pages(255))))?;
+        check(!fs::exists(&rt, FILE)?)
+    }
+
+    #[test]
+    fn pages_come_back(rt: LibcRuntime) -> Result<(), Fail> {
+        let Ok(mut file) = PageFile::create(&rt, "back.test", 256) else {
+            return Err(Fail::new("no file"));
+        };
+        check(file.pages() == 256)?;
+        let mut page = [7u8; PAGE_LEN];
+        file.write_page(255, &page)?;
+        file.sync()?;
+        file.read_page(0, &mut page)?;
+        check(page[0] == 0 && page[511] == 0)?;
+        file.read_page(255, &mut page)?;
+        check(page[0] == 7 && page[511] == 7)?;
+        fs::remove_file(&rt, "back.test")?;
+        Ok(())
     }
 }

@@ -52,7 +52,7 @@ fn complain(rt: &LibcRuntime, message: &str) -> Result<(), AnyError> {
 // One sitting, from power to the last line. What stops it is told.
 fn sit(rt: &LibcRuntime, options: &Options, file: PageFile) -> Result<(), AnyError> {
     let machine = Machine::new(rt.alloc())?;
-    let mut session = Session::new(rt, file, machine);
+    let mut session = Session { rt, file, machine };
     match session.run(options.house, options.houses) {
         Ok(()) => Ok(()),
         Err(fault) => {

@@ -30,16 +30,12 @@ impl Rows for Printed<'_> as PrintedRows {
 
 #[derive(Drop)]
 pub struct Session<'a> {
-    rt: &'a LibcRuntime,
-    file: PageFile,
-    machine: Machine,
+    pub rt: &'a LibcRuntime,
+    pub file: PageFile,
+    pub machine: Machine,
 }
 
-impl<'a> Session<'a> {
-    pub fn new(rt: &'a LibcRuntime, file: PageFile, machine: Machine) -> Session<'a> {
-        Session { rt, file, machine }
-    }
-
+impl Session<'_> {
     fn say(&mut self, text: &[u8]) -> Result<(), Fault> {
         let mut rows = Printed { rt: self.rt };
         match self.machine.command(text, &mut self.file, &mut rows)? {

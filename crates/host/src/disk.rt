@@ -1,5 +1,6 @@
 // Pages of 512 bytes, each at its place in a file.
 ghost use mathlib.Core.Path.{_≡_};
+ghost use mathlib.Core.List.{List};
 ghost use Prim.Native.Nat.{ℕ, _+_, _*_, _≤_, _<_};
 ghost use lib.ListN.{length};
 ghost use Rattle.std.specs.Results.{Cases};
@@ -18,28 +19,41 @@ use std::io::Write;
 
 pub const PAGE_LEN: usize = 512;
 
+// The same, for places in a file.
+const PAGE_BYTES: u64 = 512;
+
 // A house has at least so many pages, and at most so many.
 pub const FIRST_PAGES: u64 = 256;
 pub const MOST_PAGES: u64 = 1_048_576;
 
-// What keeps pages: `size` is how many there are, and a page is asked for only if it is one of them.
+// What keeps pages: `size` is how many there are, and a page is asked for only if it is one of them. What it is to give a page, to take one and to keep
+// what was taken, each disk says itself, as relations between the disk before and after.
 pub trait Disk {
     ghost size: { Self → ℕ };
+
+    ghost gave: { Self → ℕ → List ℕ → Self → Type 0 };
+
+    ghost took: { Self → ℕ → List ℕ → Self → Type 0 };
+
+    ghost kept: { Self → Self → Type 0 };
 
     fn pages(&self) -> u64
         ensures { λ r. ⌜ r ≡ size (now (self .entry)) ⌝ };
 
     fn read_page(&mut self, page: u64, into: &mut [u8]) -> io::Result<()>
         requires { ⌜ (page < size (now self)) × (length (now into) ≡ 512) ⌝ }
-        ensures { λ _. ⌜ size (now (self .exit)) ≡ size (now (self .entry)) ⌝ };
+        ensures gave { λ r. ⌜ made r (λ _. gave (now (self .entry)) page (now (into .exit)) (now (self .exit))) ⌝ }
+        ensures size { λ _. ⌜ size (now (self .exit)) ≡ size (now (self .entry)) ⌝ };
 
     fn write_page(&mut self, page: u64, bytes: &[u8]) -> io::Result<()>
         requires { ⌜ (page < size (now self)) × (length (now bytes) ≡ 512) ⌝ }
-        ensures { λ _. ⌜ size (now (self .exit)) ≡ size (now (self .entry)) ⌝ };
+        ensures took { λ r. ⌜ made r (λ _. took (now (self .entry)) page (now (bytes .entry)) (now (self .exit))) ⌝ }
+        ensures size { λ _. ⌜ size (now (self .exit)) ≡ size (now (self .entry)) ⌝ };
 
     // Brings what was written to where it lasts.
     fn sync(&mut self) -> io::Result<()>
-        ensures { λ _. ⌜ size (now (self .exit)) ≡ size (now (self .entry)) ⌝ };
+        ensures kept { λ r. ⌜ made r (λ _. kept (now (self .entry)) (now (self .exit))) ⌝ }
+        ensures size { λ _. ⌜ size (now (self .exit)) ≡ size (now (self .entry)) ⌝ };
 }
 
 // A file of pages that is open for reading and writing.
@@ -56,12 +70,19 @@ impl PageFile {
         requires { ⌜ page < now self .pages ⌝ }
         ensures { λ r. ⌜ (r ≡ 512 * page) × (r + 512 ≤ 512 * now (self .entry) .pages) ⌝ }
     {
-        512 * page
+        page * PAGE_BYTES
     }
 }
 
+// No contract can say what a file holds.
 pub impl Disk for PageFile as PageFileDisk {
     ghost size = { λ f. f .pages };
+
+    ghost gave = { λ _ _ _ _. Unit {0} };
+
+    ghost took = { λ _ _ _ _. Unit {0} };
+
+    ghost kept = { λ _ _. Unit {0} };
 
     fn pages(&self) -> u64 {
         self.pages
@@ -103,16 +124,16 @@ pub impl From<io::Error> for OpenError as IoOpenError {
 pub impl fmt::Display for OpenError as OpenErrorDisplay {
     fn fmt<W: fmt::Write>(&self, f: &mut fmt::Formatter<W>) -> fmt::Result {
         match self {
-            OpenError::Io(e) => write!(f, "{e}"),
+            OpenError::Io(e) => write!(f, "{e}; it must be a file of pages that may be read and written, or a new name in a folder that is there"),
             OpenError::NotPages(len) => write!(f, "it has {len} bytes, which is not a number of pages of 512 bytes: is it another file?"),
-            OpenError::Pages(pages) => write!(f, "{pages} pages: a house has 256 to 1048576"),
+            OpenError::Pages(pages) => write!(f, "{pages} pages of 512 bytes, but a house has 256 to 1048576: name another file"),
         }
     }
 }
 
 // Whether a house can have so many pages.
 fn few_enough(pages: u64) -> Result<u64, OpenError>
-    ensures { λ r. ⌜ Cases r (λ p. (p ≡ pages) × (256 ≤ p) × (p ≤ 1048576)) (λ e. e ≡ OpenError.Pages pages) ⌝ }
+    ensures { λ r. ⌜ Cases r (λ p. (p ≡ pages) × (256 ≤ p) × (p ≤ 1048576)) (λ e. (e ≡ OpenError.Pages pages) × (256 ≤ pages → 1048576 < pages)) ⌝ }
 {
     if pages < FIRST_PAGES || pages > MOST_PAGES {
         return Err(OpenError::Pages(pages));
@@ -127,10 +148,10 @@ impl PageFile {
     {
         let file = OpenOptions::new().read(true).write(true).open(rt, path)?;
         let len = file.metadata()?.len();
-        if len % 512 != 0 {
+        if len % PAGE_BYTES != 0 {
             return Err(OpenError::NotPages(len));
         }
-        let pages = few_enough(len / 512)?;
+        let pages = few_enough(len / PAGE_BYTES)?;
         Ok(PageFile { file, pages })
     }
 
@@ -140,8 +161,52 @@ impl PageFile {
     {
         let pages = few_enough(pages)?;
         let file = File::create_new(rt, path)?;
-        file.set_len(512 * pages)?;
+        file.set_len(PAGE_BYTES * pages)?;
         file.sync_all()?;
         Ok(PageFile { file, pages })
+    }
+}
+
+#[cfg(test)]
+mod tests {
+    use super::*;
+    use std::test::*;
+
+    const FILE: &str = "pages.test";
+
+    // What opening a file of so many bytes says.
+    fn opened(rt: &LibcRuntime, len: u64) -> Result<Result<PageFile, OpenError>, Fail> {
+        let file = File::create(rt, FILE)?;
+        file.set_len(len)?;
+        Ok(PageFile::open(rt, FILE))
+    }
+
+    #[test]
+    fn files_that_are_refused(rt: LibcRuntime) -> Result<(), Fail> {
+        check(matches!(opened(&rt, 131_073)?, Err(OpenError::NotPages(131_073))))?;
+        check(matches!(opened(&rt, 0)?, Err(OpenError::Pages(0))))?;
+        check(matches!(opened(&rt, 130_560)?, Err(OpenError::Pages(255))))?;
+        check(matches!(PageFile::create(&rt, FILE, 256), Err(OpenError::Io(_))))?;
+        fs::remove_file(&rt, FILE)?;
+        check(matches!(PageFile::open(&rt, FILE), Err(OpenError::Io(_))))?;
+        check(matches!(PageFile::create(&rt, FILE, 255), Err(OpenError::Pages(255))))?;
+        check(!fs::exists(&rt, FILE)?)
+    }
+
+    #[test]
+    fn pages_come_back(rt: LibcRuntime) -> Result<(), Fail> {
+        let Ok(mut file) = PageFile::create(&rt, "back.test", 256) else {
+            return Err(Fail::new("no file"));
+        };
+        check(file.pages() == 256)?;
+        let mut page = [7u8; PAGE_LEN];
+        file.write_page(255, &page)?;
+        file.sync()?;
+        file.read_page(0, &mut page)?;
+        check(page[0] == 0 && page[511] == 0)?;
+        file.read_page(255, &mut page)?;
+        check(page[0] == 7 && page[511] == 7)?;
+        fs::remove_file(&rt, "back.test")?;
+        Ok(())
     }
 }

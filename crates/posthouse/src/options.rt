@@ -1,4 +1,7 @@
 // What is asked for on the command line.
+ghost use mathlib.Core.Path.{_≡_};
+ghost use Rattle.std.specs.Vec.{made};
+ghost use Rattle.posthouse.specs.Proper.{One-of, Pages, Proper, pages-of};
 use std::env::Args;
 
 // The most houses that there can be.
@@ -24,7 +27,10 @@ pub enum Wish {
 }
 
 impl Options {
-    pub fn new_pages(&self) -> u64 {
+    // How many pages a new file gets.
+    pub fn new_pages(&self) -> u64
+        ensures { λ r. ⌜ r ≡ pages-of (now (self .entry) .pages) ⌝ }
+    {
         self.pages.unwrap_or(USUAL_PAGES)
     }
 }
@@ -43,7 +49,9 @@ fn number(word: Option<String>) -> Option<u64> {
 }
 
 // The house's number and how many there are, if they go together.
-fn houses(house: Option<String>, houses: Option<String>) -> Result<(u64, u64), &'static str> {
+fn houses(house: Option<String>, houses: Option<String>) -> Result<(u64, u64), &'static str>
+    ensures { λ r. ⌜ made r (λ p. One-of (p .0) (p .1)) ⌝ }
+{
     let Some(houses) = number(houses) else {
         return Err(BAD_HOUSES);
     };
@@ -61,7 +69,9 @@ fn houses(house: Option<String>, houses: Option<String>) -> Result<(u64, u64), &
     }
 }
 
-fn pages(word: Option<String>) -> Result<Option<u64>, &'static str> {
+fn pages(word: Option<String>) -> Result<Option<u64>, &'static str>
+    ensures { λ r. ⌜ made r Pages ⌝ }
+{
     match word {
         None => Ok(None),
         Some(text) => match text.as_str().parse::<u64>() {
@@ -76,8 +86,10 @@ fn pages(word: Option<String>) -> Result<Option<u64>, &'static str> {
     }
 }
 
-// The words after the program's name.
-pub fn read(args: Args) -> Wish {
+// The words after the program's name. What is asked for can be had.
+pub fn read(args: Args) -> Wish
+    ensures { λ r. ⌜ Proper r ⌝ }
+{
     let mut words = args;
     let _program = words.next();
     let Some(path) = words.next() else {

@@ -2,3 +2,4 @@ pub mod Words
 pub mod Bits
 pub mod Geometry
 pub mod Store
+pub mod Commit

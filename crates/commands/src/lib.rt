@@ -36,3 +36,6 @@ pub fn read(text: &[u8]) -> Option<Command<'_>>
 {
     kinds::command(text)
 }
+
+#[cfg(test)]
+mod tests;

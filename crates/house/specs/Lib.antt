@@ -1,3 +1,4 @@
+pub mod Memory
 pub mod Machine
 pub mod Entry
 pub mod Told

@@ -3,6 +3,7 @@
 mod event;
 mod export;
 pub mod kind;
+mod phase;
 mod refusal;
 
 ghost use mathlib.Core.Path.{_≡_};
@@ -15,6 +16,7 @@ ghost use Rattle.house.specs.Machine.{own, unknown};
 ghost use Rattle.house.specs.Told.{told-refusal, Responds, event-meant};
 ghost use Rattle.commands.specs.Reader.{command-of};
 pub use event::Event;
+pub use phase::Phase;
 pub use refusal::Refusal;
 
 // How many numbers a house's memory has.

@@ -6,12 +6,13 @@ use mathlib.Core.Logic.{inl, inr, _≢_}
 use Prim.Native.Nat.{ℕ, zero, suc, _+_, _*_, _-_, _/_, _%_, _^_, _≤_, _<_}
 use native.Mathlib.Omega.{arith}
 use native.Mathlib.Nat.{one-mul, zero-div}
+use lib.Bits.{bitXor, xor-add-and, xor-block, xor-zero-r}
 use lib.Dec.{eqb}
 use lib.ListN.{length, getD, set, length-set}
 use lib.Seq.{getD-set-same, getD-set-other, set-out}
 use Rattle.std.proofs.shelf.Lists.{getD-past}
 use Rattle.std.proofs.shelf.Tests.{cases-lt, cases-eq, eq-eqb, ne-eqb}
-use Rattle.std.proofs.shelf.Bits.{pow-pos, pow-add, shr-shr, shr-high, div-add-mod', mod-below, le-div}
+use Rattle.std.proofs.shelf.Bits.{and-mask, pow-pos, pow-add, shr-shr, shr-high, div-add-mod', mod-below, le-div}
 use Rattle.model.specs.Mail.{pick}
 use Rattle.model.specs.Device.{zeros}
 use Rattle.model.specs.Run.{all-small}
@@ -60,8 +61,9 @@ pub word-bit-flipped : (w k : ℕ) → word-bit (word-flipped w k) k ≡ 1 - wor
 unfolding word-bit
 word-bit-flipped w k =
     elim (cases-eq (high w k % 2) 0) [
-      inl h ↦ rw (flipped-even w k h, high-plus w k 1) (omega arith)
-    | inr h ↦ let some : 1 ≤ high w k = omega arith in rw (flipped-odd w k h, high-minus w k 1 some) (omega arith) ]
+      | inl h ↦ rw (flipped-even w k h, high-plus w k 1) (omega arith)
+      | inr h ↦ let some : 1 ≤ high w k = omega arith in rw (flipped-odd w k h, high-minus w k 1 some) (omega arith)
+    ]
 
 -- above the bit nothing changes
 above-one : (w k : ℕ) → word-flipped w k / 2 ^ (k + 1) ≡ w / 2 ^ (k + 1)
@@ -69,8 +71,9 @@ above-one w k =
     rw
     (← (shr-shr (word-flipped w k) k 1), ← (shr-shr w k 1))
     (elim (cases-eq (high w k % 2) 0) [
-      inl h ↦ rw (flipped-even w k h, high-plus w k 1) (omega arith)
-    | inr h ↦ let some : 1 ≤ high w k = omega arith in rw (flipped-odd w k h, high-minus w k 1 some) (omega arith) ])
+      | inl h ↦ rw (flipped-even w k h, high-plus w k 1) (omega arith)
+      | inr h ↦ let some : 1 ≤ high w k = omega arith in rw (flipped-odd w k h, high-minus w k 1 some) (omega arith)
+    ])
 
 above : (w k j : ℕ) → k < j → word-flipped w k / 2 ^ j ≡ w / 2 ^ j
 above w k j h =
@@ -100,22 +103,50 @@ below : (w k j : ℕ) → j < k → high (word-flipped w k) j % 2 ≡ high w j %
 below w k j h =
     let units = unit-in-units k j h in
     elim (cases-eq (high w k % 2) 0) [
-      inl e ↦ rw (flipped-even w k e, units .1, high-plus w j (units .0 + units .0)) (omega arith)
-    | inr o ↦
-        let some : 1 ≤ high w k = omega arith in
-        let l : (units .0 + units .0) * 2 ^ j ≤ w = omega (arith, unit-le w k some, units .1) in
-        let few : units .0 + units .0 ≤ high w j = le-div (units .0 + units .0) w (2 ^ j) (pow-pos j) l in
-        rw (flipped-odd w k o, units .1, high-minus w j (units .0 + units .0) few) (omega arith) ]
+      | inl e ↦ rw (flipped-even w k e, units .1, high-plus w j (units .0 + units .0)) (omega arith)
+      | inr o ↦
+          let some : 1 ≤ high w k = omega arith in
+          let l : (units .0 + units .0) * 2 ^ j ≤ w = omega (arith, unit-le w k some, units .1) in
+          let few : units .0 + units .0 ≤ high w j = le-div (units .0 + units .0) w (2 ^ j) (pow-pos j) l in
+          rw (flipped-odd w k o, units .1, high-minus w j (units .0 + units .0) few) (omega arith)
+    ]
 
 pub word-bit-flipped-other : (w k j : ℕ) → j ≢ k → word-bit (word-flipped w k) j ≡ word-bit w j
 unfolding word-bit
 word-bit-flipped-other w k j n =
     elim (cases-lt j k) [
-      inl h ↦ below w k j h
-    | inr h ↦ let l : k < j = omega arith in ap (λ x. x % 2) (above w k j l) ]
+      | inl h ↦ below w k j h
+      | inr h ↦ let l : k < j = omega arith in ap (λ x. x % 2) (above w k j l)
+    ]
 
 pub word-flipped-small : (w k : ℕ) → k < 64 → w < 2 ^ 64 → word-flipped w k < 2 ^ 64
 word-flipped-small w k h l = omega (arith, above w k 64 h)
+
+-- in machine words a flip is an exclusive or with the bit's unit
+xor-one : (q : ℕ) → bitXor q 1 + (q % 2) * 2 ≡ q + 1
+xor-one q = ap (λ b. bitXor q 1 + b * 2) (sym (and-mask q 1)) ∙ xor-add-and q 1
+
+xor-unit : (w k : ℕ) → bitXor w (2 ^ k) ≡ bitXor (high w k) 1 * 2 ^ k + w % 2 ^ k
+xor-unit w k =
+    let unit : 2 ^ k ≡ 1 * 2 ^ k + 0 = omega arith in
+    ap (λ v. bitXor v (2 ^ k)) (split w k)
+    ∙ ap (bitXor (high w k * 2 ^ k + w % 2 ^ k)) unit
+    ∙ xor-block k (high w k) 1 (w % 2 ^ k) 0 (low-lt w k) (pow-pos k)
+    ∙ ap (λ r. bitXor (high w k) 1 * 2 ^ k + r) (xor-zero-r (w % 2 ^ k))
+
+pub xor-is-flipped : (w k : ℕ) → bitXor w (2 ^ k) ≡ word-flipped w k
+xor-is-flipped w k =
+    elim (cases-eq (high w k % 2) 0) [
+      | inl h ↦
+          let e : bitXor (high w k) 1 ≡ high w k + 1 = omega (arith, xor-one (high w k)) in
+          xor-unit w k ∙ ap (λ q. q * 2 ^ k + w % 2 ^ k) e ∙ omega (arith, split w k) ∙ sym (flipped-even w k h)
+      | inr h ↦
+          let rest : ℕ = bitXor (high w k) 1 in
+          let e : high w k ≡ rest + 1 = omega (arith, xor-one (high w k)) in
+          let f : high w k * 2 ^ k ≡ (rest + 1) * 2 ^ k = ap (λ q. q * 2 ^ k) e in
+          let g : rest * 2 ^ k + w % 2 ^ k ≡ w - 1 * 2 ^ k = omega (arith, split w k) in
+          xor-unit w k ∙ g ∙ sym (flipped-odd w k h)
+    ]
 
 -- bits of a row of words
 
@@ -166,10 +197,11 @@ unfolding bit flipped
 flipped-other-within ws t u n h =
     let w : ℕ = word-flipped (getD ws (t / 64) 0) (t % 64) in
     elim (cases-eq (u / 64) (t / 64)) [
-      inl e ↦
-        let o : u % 64 ≢ t % 64 = omega arith in
-        rw (e, getD-set-same ws (t / 64) w 0 h) (word-bit-flipped-other (getD ws (t / 64) 0) (t % 64) (u % 64) o)
-    | inr o ↦ ap (λ v. word-bit v (u % 64)) (getD-set-other ws (t / 64) (u / 64) w 0 o) ]
+      | inl e ↦
+          let o : u % 64 ≢ t % 64 = omega arith in
+          rw (e, getD-set-same ws (t / 64) w 0 h) (word-bit-flipped-other (getD ws (t / 64) 0) (t % 64) (u % 64) o)
+      | inr o ↦ ap (λ v. word-bit v (u % 64)) (getD-set-other ws (t / 64) (u / 64) w 0 o)
+    ]
 
 pub bit-flipped-other : (ws : List ℕ) (t u : ℕ) → u ≢ t → bit (flipped ws t) u ≡ bit ws u
 bit-flipped-other ws t u n =
@@ -188,20 +220,23 @@ touched-already counting coming t n = rw (ne-eqb (bit counting t) (bit coming t)
 pub length-touched : (counting coming : List ℕ) (t : ℕ) → length (touched counting coming t) ≡ length coming
 length-touched counting coming t =
     elim (cases-eq (bit counting t) (bit coming t)) [
-      inl e ↦ rw (touched-same counting coming t e) (length-flipped coming t)
-    | inr n ↦ rw (touched-already counting coming t n) ]
+      | inl e ↦ rw (touched-same counting coming t e) (length-flipped coming t)
+      | inr n ↦ rw (touched-already counting coming t n)
+    ]
 
 pub all-small-touched : (counting coming : List ℕ) (t : ℕ) → all-small coming ≡ true → all-small (touched counting coming t) ≡ true
 all-small-touched counting coming t h =
     elim (cases-eq (bit counting t) (bit coming t)) [
-      inl e ↦ rw (touched-same counting coming t e) (all-small-flipped coming t h)
-    | inr n ↦ rw (touched-already counting coming t n) h ]
+      | inl e ↦ rw (touched-same counting coming t e) (all-small-flipped coming t h)
+      | inr n ↦ rw (touched-already counting coming t n) h
+    ]
 
 pub bit-touched : (counting coming : List ℕ) (t : ℕ) → t / 64 < length coming → bit (touched counting coming t) t ≡ 1 - bit counting t
 bit-touched counting coming t h =
     elim (cases-eq (bit counting t) (bit coming t)) [
-      inl e ↦ rw (touched-same counting coming t e, bit-flipped coming t h) (omega arith)
-    | inr n ↦ rw (touched-already counting coming t n) (omega (arith, bit-lt counting t, bit-lt coming t)) ]
+      | inl e ↦ rw (touched-same counting coming t e, bit-flipped coming t h) (omega arith)
+      | inr n ↦ rw (touched-already counting coming t n) (omega (arith, bit-lt counting t, bit-lt coming t))
+    ]
 
 pub bit-touched-differs : (counting coming : List ℕ) (t : ℕ) → t / 64 < length coming → bit counting t ≢ bit (touched counting coming t) t
 bit-touched-differs counting coming t h e = omega (arith, bit-touched counting coming t h, bit-lt counting t)
@@ -209,5 +244,6 @@ bit-touched-differs counting coming t h e = omega (arith, bit-touched counting c
 pub bit-touched-other : (counting coming : List ℕ) (t u : ℕ) → u ≢ t → bit (touched counting coming t) u ≡ bit coming u
 bit-touched-other counting coming t u n =
     elim (cases-eq (bit counting t) (bit coming t)) [
-      inl e ↦ rw (touched-same counting coming t e) (bit-flipped-other coming t u n)
-    | inr o ↦ rw (touched-already counting coming t o) ]
+      | inl e ↦ rw (touched-same counting coming t e) (bit-flipped-other coming t u n)
+      | inr o ↦ rw (touched-already counting coming t o)
+    ]

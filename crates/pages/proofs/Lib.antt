@@ -7,3 +7,4 @@ pub mod Kept
 pub mod Blank
 pub mod Commit
 pub mod Atomic
+pub mod Touched

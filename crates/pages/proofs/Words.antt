@@ -142,15 +142,16 @@ eight-at : (bs : List ℕ) (at : ℕ) → at + 8 ≤ length bs →
     ∷ getD bs (at + 7) 0
     ∷ []
 eight-at bs at h =
-    rw
-    (next-at 7 at (at + 1) bs (omega arith) refl,
-    next-at 6 (at + 1) (at + 2) bs (omega arith) (omega arith),
-    next-at 5 (at + 2) (at + 3) bs (omega arith) (omega arith),
-    next-at 4 (at + 3) (at + 4) bs (omega arith) (omega arith),
-    next-at 3 (at + 4) (at + 5) bs (omega arith) (omega arith),
-    next-at 2 (at + 5) (at + 6) bs (omega arith) (omega arith),
-    next-at 1 (at + 6) (at + 7) bs (omega arith) (omega arith),
-    next-at 0 (at + 7) (at + 8) bs (omega arith) (omega arith))
+    rw (
+      next-at 7 at (at + 1) bs (omega arith) refl,
+      next-at 6 (at + 1) (at + 2) bs (omega arith) (omega arith),
+      next-at 5 (at + 2) (at + 3) bs (omega arith) (omega arith),
+      next-at 4 (at + 3) (at + 4) bs (omega arith) (omega arith),
+      next-at 3 (at + 4) (at + 5) bs (omega arith) (omega arith),
+      next-at 2 (at + 5) (at + 6) bs (omega arith) (omega arith),
+      next-at 1 (at + 6) (at + 7) bs (omega arith) (omega arith),
+      next-at 0 (at + 7) (at + 8) bs (omega arith) (omega arith),
+    )
 
 pub word-at-is : (bs : List ℕ) (at : ℕ) → at + 8 ≤ length bs →
     getD bs at 0 * 72057594037927936
@@ -478,7 +479,7 @@ patched-next xs at vs ws h =
     ∙ ap
     (λ r. (take at xs ++ vs) ++ (ws ++ r))
     (ap (drop (length ws)) (drop-patched-after xs at vs (at + length vs) (omega arith) (omega arith) ∙ sym (drop-drop (length vs) at xs))
-        ∙ drop-drop (length ws) (length vs) (drop at xs) ∙ ap (λ k. drop k (drop at xs)) (sym (length-append vs ws)))
+    ∙ drop-drop (length ws) (length vs) (drop at xs) ∙ ap (λ k. drop k (drop at xs)) (sym (length-append vs ws)))
     ∙ append-assoc (take at xs) vs (ws ++ drop (length (vs ++ ws)) (drop at xs))
     ∙ ap (λ r. take at xs ++ r) (sym (append-assoc vs ws (drop (length (vs ++ ws)) (drop at xs))))
 

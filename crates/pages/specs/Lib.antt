@@ -3,3 +3,4 @@ pub mod Bits
 pub mod Geometry
 pub mod Store
 pub mod Commit
+pub mod Touched

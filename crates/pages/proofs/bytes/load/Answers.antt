@@ -28,6 +28,7 @@ returns c =
     record {
       fits = sym (le-leb (8 * length (c .args .words .now)) (length (c .args .page .now)) (omega arith));
       read =
-        sym (take-all (c .loop-i .i) (c .loop-i .words) (omega arith))
-        ∙ c .loop-i .inv
-        ∙ ap (λ n. words-in n (c .args .page .now)) all }
+          sym (take-all (c .loop-i .i) (c .loop-i .words) (omega arith))
+          ∙ c .loop-i .inv
+          ∙ ap (λ n. words-in n (c .args .page .now)) all;
+    }

@@ -49,6 +49,7 @@ returns c =
     record {
       fits = sym (le-leb (8 * length ws) (length (c .args .out .now)) (omega arith));
       written =
-        c .loop-i .inv
-        ∙ ap (λ r. bytes-of r ++ drop (8 * c .loop-i .i) (c .args .out .now)) (take-all (c .loop-i .i) ws (omega arith))
-        ∙ ap (λ n. bytes-of ws ++ drop (8 * n) (c .args .out .now)) all }
+          c .loop-i .inv
+          ∙ ap (λ r. bytes-of r ++ drop (8 * c .loop-i .i) (c .args .out .now)) (take-all (c .loop-i .i) ws (omega arith))
+          ∙ ap (λ n. bytes-of ws ++ drop (8 * n) (c .args .out .now)) all;
+    }

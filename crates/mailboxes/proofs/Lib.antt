@@ -1,5 +1,8 @@
 pub mod Places
 pub mod Names
+pub mod Compare
+pub mod Writes
+pub mod Room
 pub mod People
 pub mod Records
 pub mod Changes

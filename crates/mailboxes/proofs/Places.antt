@@ -6,7 +6,8 @@ use mathlib.Core.Logic.{inl, inr}
 use Prim.Native.Nat.{ℕ, zero, suc, _+_, _-_, _≤_, _<_}
 use native.Mathlib.Nat.{add-zero}
 use native.Mathlib.Omega.{arith}
-use lib.ListN.{length}
+use native.Mathlib.Numerals.{add-one}
+use lib.ListN.{length, length-append}
 use Rattle.std.proofs.shelf.Tests.{cases-bool, cases-eq}
 use Rattle.std.specs.Options.{isSome}
 use Rattle.std.specs.declared.option.Option.{Option}
@@ -169,3 +170,17 @@ those-first p (suc k) from i e =
         let n : suc from + k ≡ from + suc k = omega arith in
         rw t (those-first p k (suc from) i (rw t at e) ∙ ap (λ m. i ∷ those p (count-up (suc i) (m - suc i))) n)
     ]
+
+-- counting through places one by one
+pub length-those : {A : Type 0} (p : A → Bool) (xs : List A) → length (those p xs) ≤ length xs
+length-those p [] = omega arith
+length-those p (x ∷ xs) = elim (cases-bool (p x)) [ inl e ↦ rw e (omega (arith, length-those p xs)) | inr e ↦ rw e (omega (arith, length-those p xs)) ]
+
+those-push : (p : ℕ → Bool) (k : ℕ) → those p (count-up 0 (k + 1)) ≡ those p (count-up 0 k) ++ those p (k ∷ [])
+those-push p k = ap (λ n. those p (count-up 0 n)) (add-one k) ∙ ap (those p) (count-up-push k) ∙ those-append p (count-up 0 k) (k ∷ [])
+
+pub count-yes : (p : ℕ → Bool) (k : ℕ) → p k ≡ true → length (those p (count-up 0 (k + 1))) ≡ length (those p (count-up 0 k)) + 1
+count-yes p k e = ap length (those-push p k) ∙ length-append (those p (count-up 0 k)) (those p (k ∷ [])) ∙ rw e
+
+pub count-no : (p : ℕ → Bool) (k : ℕ) → p k ≡ false → length (those p (count-up 0 (k + 1))) ≡ length (those p (count-up 0 k))
+count-no p k e = ap length (those-push p k) ∙ length-append (those p (count-up 0 k)) (those p (k ∷ [])) ∙ rw e (add-zero (length (those p (count-up 0 k))))

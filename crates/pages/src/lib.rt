@@ -7,6 +7,7 @@ mod selectors;
 pub use bytes::load;
 pub use bytes::store;
 pub use selectors::bit;
+pub use selectors::flip;
 pub use selectors::next_touched;
 pub use selectors::touch;
 

@@ -19,7 +19,7 @@ pub fn bit(words: &[u64], t: u64) -> u64
 }
 
 // Turns the bit of a table page.
-fn flip(words: &mut [u64], t: u64)
+pub fn flip(words: &mut [u64], t: u64)
     ensures { λ _. ⌜ now (words .exit) ≡ flipped (now (words .entry)) t ⌝ }
 {
     let place = (t / WORD_BITS) as usize;

@@ -6,30 +6,16 @@ use mathlib.Core.Logic.{inl, inr}
 use Prim.Native.Nat.{ℕ, zero, suc, _+_, _*_, _-_, _%_, _≤_, _<_}
 use native.Mathlib.Omega.{arith}
 use lib.Dec.{eqb}
-use lib.ListN.{length, getD, take, drop, length-append, length-drop}
+use lib.ListN.{length, getD, take, drop, length-append}
 use Rattle.std.proofs.shelf.Tests.{cases-lt, eq-eqb, ne-eqb, and-left}
-use Rattle.std.proofs.shelf.Lists.{drop-more, drop-all, drop-drop, getD-drop, getD-append-left, getD-append-right, getD-past}
+use Rattle.std.proofs.shelf.Lists.{drop-more, drop-all, drop-drop, getD-append-left, getD-append-right, getD-past}
 use Rattle.model.specs.Mail.{same}
 use Rattle.model.specs.Device.{zeros}
 use Rattle.model.specs.Promise.{from-bytes}
 use Rattle.pages.specs.Words.{words-in, part}
-use Rattle.pages.proofs.Words.{length-zeros, getD-zeros, getD-part, length-part}
+use Rattle.pages.proofs.Words.{word-at-is, length-zeros, getD-zeros, getD-part, length-part}
 use Rattle.mailboxes.specs.Directory.{name-words, named, owner-at, owns, box-place}
 use Rattle.mailboxes.proofs.Records.{length-name-words}
-
--- a word from eight bytes, the highest first
-word-of-bytes : (bs : List ℕ) → 8 ≤ length bs →
-    from-bytes 0 (take 8 bs) ≡ getD bs 0 0 * 72057594037927936 + getD bs 1 0 * 281474976710656 + getD bs 2 0 * 1099511627776 + getD bs 3 0 * 4294967296 + getD bs 4 0 * 16777216 + getD bs 5 0 * 65536 + getD bs 6 0 * 256 + getD bs 7 0
-unfolding from-bytes
-word-of-bytes [] l = absurd (omega arith)
-word-of-bytes (a ∷ []) l = absurd (omega arith)
-word-of-bytes (a ∷ b ∷ []) l = absurd (omega arith)
-word-of-bytes (a ∷ b ∷ c ∷ []) l = absurd (omega arith)
-word-of-bytes (a ∷ b ∷ c ∷ d ∷ []) l = absurd (omega arith)
-word-of-bytes (a ∷ b ∷ c ∷ d ∷ e ∷ []) l = absurd (omega arith)
-word-of-bytes (a ∷ b ∷ c ∷ d ∷ e ∷ f ∷ []) l = absurd (omega arith)
-word-of-bytes (a ∷ b ∷ c ∷ d ∷ e ∷ f ∷ g ∷ []) l = absurd (omega arith)
-word-of-bytes (a ∷ b ∷ c ∷ d ∷ e ∷ f ∷ g ∷ h ∷ bs) l = omega arith
 
 getD-words-in : (n i : ℕ) (bs : List ℕ) → i < n → getD (words-in n bs) i 0 ≡ from-bytes 0 (take 8 (drop (8 * i) bs))
 unfolding words-in
@@ -53,11 +39,10 @@ pub name-word : (nm : List ℕ) (i : ℕ) → i < 8 →
 unfolding name-words
 name-word nm i l =
     let bs = nm ++ zeros (64 - length nm) in
-    let at : (k : ℕ) → getD (drop (8 * i) bs) k 0 ≡ getD nm (8 * i + k) 0 = λ k. getD-drop (8 * i) bs k 0 ∙ padded nm (64 - length nm) (8 * i + k) in
-    let z : 8 * i + 0 ≡ 8 * i = omega arith in
+    let at : (k : ℕ) → getD bs k 0 ≡ getD nm k 0 = padded nm (64 - length nm) in
     getD-words-in 8 i bs l
-    ∙ word-of-bytes (drop (8 * i) bs) (omega (arith, length-drop (8 * i) bs, length-append nm (zeros (64 - length nm)), length-zeros (64 - length nm)))
-    ∙ omega (arith, at 0, at 1, at 2, at 3, at 4, at 5, at 6, at 7, ap (λ k. getD nm k 0) z)
+    ∙ sym (word-at-is bs (8 * i) (omega (arith, length-append nm (zeros (64 - length nm)), length-zeros (64 - length nm))))
+    ∙ omega (arith, at (8 * i), at (8 * i + 1), at (8 * i + 2), at (8 * i + 3), at (8 * i + 4), at (8 * i + 5), at (8 * i + 6), at (8 * i + 7))
 
 -- two rows from a place on
 pub same-at : (xs ys : List ℕ) (i : ℕ) → i < length xs → i < length ys → same (drop i xs) (drop i ys) ≡ eqb (getD xs i 0) (getD ys i 0) && same (drop (i + 1) xs) (drop (i + 1) ys)

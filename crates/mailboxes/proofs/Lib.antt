@@ -3,6 +3,7 @@ pub mod Names
 pub mod Compare
 pub mod Writes
 pub mod Room
+pub mod Rows
 pub mod People
 pub mod Records
 pub mod Changes

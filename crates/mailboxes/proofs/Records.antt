@@ -13,6 +13,7 @@ use Rattle.model.specs.Device.{zeros}
 use Rattle.model.specs.Run.{all-small}
 use Rattle.pages.specs.Words.{words-in, bytes-of, part}
 use Rattle.mailboxes.specs.Directory.{name-words, name-record, person-record, box-record, person-place, box-place, owner-at, name-at, box-of}
+use Rattle.mailboxes.specs.Row.{row-at}
 use Rattle.pages.proofs.Words.{every-append, length-eight, length-bytes-of, length-words-in, getD-part, part-of-part, all-small-cons, all-small-append, all-small-words-in}
 use Rattle.mailboxes.proofs.Names.{all-bytes-zeros, name-short, name-bytes, name-kept, owner-kept}
 
@@ -88,9 +89,26 @@ unfolding box-of
 box-alike dir dir′ i e = rw (name-alike dir dir′ (box-place i) e, next-alike dir dir′ (box-place i) e)
 
 -- the row of a box
-pub box-row-of : (dir : List ℕ) (i : ℕ) → box-row (box-of dir i) ≡ with-length (name-at dir (box-place i)) ++ eight (getD dir (box-place i + 9) 0) ++ eight 0
+pub box-row-of : (dir : List ℕ) (i : ℕ) → box-row (box-of dir i) ≡ row-at dir (box-place i)
 unfolding box-of
 box-row-of dir i = refl
+
+pub length-row-at : (dir : List ℕ) (at : ℕ) → length (row-at dir at) ≡ 8 + length (name-at dir at) + 16
+length-row-at dir at =
+    let nm = name-at dir at in
+    let next = getD dir (at + 9) 0 in
+    omega
+    ( arith
+    , length-append (with-length nm ++ eight next) (eight 0)
+    , length-append (with-length nm) (eight next)
+    , length-append (eight (length nm)) nm
+    , length-eight (length nm)
+    , length-eight next
+    , length-eight 0
+    )
+
+pub length-box-row : (dir : List ℕ) (i : ℕ) → length (box-row (box-of dir i)) ≡ 8 + length (name-at dir (box-place i)) + 16
+length-box-row dir i = ap length (box-row-of dir i) ∙ length-row-at dir (box-place i)
 
 pub length-name-at : (dir : List ℕ) (at : ℕ) → length (name-at dir at) ≤ 64
 unfolding name-at
@@ -100,21 +118,6 @@ length-name-at dir at =
     , length-take (getD dir at 0 % 256) (bytes-of (part dir (at + 1) 8))
     , length-bytes-of (part dir (at + 1) 8)
     , length-take 8 (drop (at + 1) dir)
-    )
-
-pub length-box-row : (dir : List ℕ) (i : ℕ) → length (box-row (box-of dir i)) ≡ 8 + length (name-at dir (box-place i)) + 16
-unfolding box-of
-length-box-row dir i =
-    let nm = name-at dir (box-place i) in
-    let next = getD dir (box-place i + 9) 0 in
-    omega
-    ( arith
-    , length-append (with-length nm ++ eight next) (eight 0)
-    , length-append (with-length nm) (eight next)
-    , length-append (eight (length nm)) nm
-    , length-eight (length nm)
-    , length-eight next
-    , length-eight 0
     )
 
 pub box-row-short : (dir : List ℕ) (i : ℕ) → length (box-row (box-of dir i)) ≤ 88

@@ -3,8 +3,10 @@ ghost use mathlib.Core.Path.{_≡_};
 ghost use Prim.Native.Nat.{_≤_, min};
 ghost use lib.ListN.{length};
 ghost use denote.Ref.{now};
-ghost use Rattle.mailboxes.specs.Directory.{find-person, find-box, count-boxes, next-box};
+ghost use Rattle.model.specs.House.{box-row};
+ghost use Rattle.mailboxes.specs.Directory.{find-person, find-box, count-boxes, next-box, box-of};
 ghost use Rattle.mailboxes.specs.Room.{people-room, box-room};
+ghost use Rattle.mailboxes.specs.Row.{row-fits, row-said, row-over};
 
 use crate::name::has_name;
 use crate::name::owner_at;
@@ -12,6 +14,7 @@ use crate::place::box_place;
 use crate::place::box_room;
 use crate::place::people_room;
 use crate::place::person_place;
+use crate::row::put_row;
 
 // Lent words with so many people and boxes in them, which they have room for.
 #[derive(Clone, Copy)]
@@ -83,5 +86,17 @@ impl<'a> Directory<'a> {
             }
         }
         None
+    }
+
+    // Writes the row that shows a box to the front of `out`, leaves the rest of it, and says how long the row is. Where there is no such box, or
+    // no room for its row, nothing is written.
+    pub fn box_row(&self, index: u64, out: &mut [u8]) -> Option<u64>
+        ensures says { λ r. ⌜ r ≡ row-said (row-fits (now (self .entry) .boxes) (now (now (self .entry) .words)) index (now (out .entry))) (box-row (box-of (now (now (self .entry) .words)) index)) ⌝ }
+        ensures written { λ _. ⌜ now (out .exit) ≡ row-over (row-fits (now (self .entry) .boxes) (now (now (self .entry) .words)) index (now (out .entry))) (box-row (box-of (now (now (self .entry) .words)) index)) (now (out .entry)) ⌝ }
+    {
+        if index >= self.boxes {
+            return None;
+        }
+        put_row(self.words, box_place(index), out)
     }
 }

@@ -3,6 +3,7 @@ mod add;
 mod directory;
 mod name;
 mod place;
+mod row;
 
 pub use add::add_box;
 pub use add::add_person;

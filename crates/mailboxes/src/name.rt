@@ -9,10 +9,10 @@ ghost use Rattle.mailboxes.specs.Directory.{name-words, name-record, named, ow
 pub(crate) const NAME_BYTES: usize = 64;
 
 const NAME_WORDS: usize = 8;
-const WORD_BYTES: usize = 8;
+pub(crate) const WORD_BYTES: usize = 8;
 
 // A record's first word is the owner times this, and the name's length.
-const OWNER_STEP: u64 = 256;
+pub(crate) const OWNER_STEP: u64 = 256;
 
 // The byte at a place of a name, or 0 behind its end.
 fn padded_byte(name: &[u8], k: usize) -> u8

@@ -1,19 +1,18 @@
 -- A command is read just where it is said, and no two commands are spelled alike.
 use mathlib.Core.Path.{_≡_, refl, sym, ap, _∙_}
 use mathlib.Core.Bool.{Bool, true, false, _&&_}
-use mathlib.Core.List.{List, [], _∷_, _++_, append-assoc, append-nil}
+use mathlib.Core.List.{List, [], _∷_, _++_, append-assoc}
 use mathlib.Core.Logic.{_⊎_, inl, inr, ⊎-elim}
-use Prim.Native.Nat.{ℕ, zero, suc, _<_, _≤_}
+use Prim.Native.Nat.{ℕ, zero, suc}
 use native.Mathlib.Omega.{arith}
-use lib.Dec.{eqb, ltb, leb}
-use lib.ListN.{length}
+use lib.Dec.{ltb, leb}
 use Rattle.std.specs.declared.option.Option.{Option}
 use Rattle.std.specs.declared.option.Option.the-variants.{Some, None}
-use Rattle.std.proofs.shelf.Tests.{and-parts, and-from, leb-true, lt-ltb}
-use Rattle.model.specs.Mail.{pick, every, flat, eight, with-length, all-bytes}
+use Rattle.std.proofs.shelf.Tests.{and-parts}
+use Rattle.model.specs.Mail.{eight, with-length}
 use Rattle.model.specs.House.{Command, join, hand-in, boxes, new-box, drop-box, list, get, set-mark, to-box, clear, rules, find, push, number-fits, a-name, bit, test-fits, test-spelled, rules-spelled, spelled, fits}
 use Rattle.model.specs.Promise.{Never, Said, Spelled-once}
-use Rattle.commands.specs.Reader.{Reader, pair, only, by-kind, read-number, read-mailbox, read-command, command-of}
+use Rattle.commands.specs.Reader.{only, by-kind, read-number, read-mailbox, read-command, command-of}
 use Rattle.commands.specs.Reads.{Reads}
 use Rattle.commands.proofs.Readers.{Reads-spelling, nothing-read, made-was-spelled, made-is-read, pair-reads, only-reads, same-some, whole-was-spelled, whole-is-read}
 use Rattle.commands.proofs.Numbers.{number-reads}
@@ -106,12 +105,13 @@ said-or-not text = by (command-of text) refl
 
 pub reads : Reads
 unfolding Reads
-reads text =
-    (read-was-said text, said-is-read text,
-     λ e a s. nothing-read a (sym e ∙ said-is-read text a s),
-     λ never. ⊎-elim (λ r. absurd (let n : zero ≡ suc zero = never (r .0) (r .2) in omega arith)) (λ r. r .0) (said-or-not text))
+reads text = (
+  read-was-said text,
+  said-is-read text,
+  λ e a s. nothing-read a (sym e ∙ said-is-read text a s),
+  λ never. ⊎-elim (λ r. absurd (let n : zero ≡ suc zero = never (r .0) (r .2) in omega arith)) (λ r. r .0) (said-or-not text),
+)
 
 pub spelled-once : Spelled-once
 unfolding Spelled-once Said
 spelled-once a c ta tc e = same-some a c (sym (said-is-read (spelled a) a (refl, ta)) ∙ said-is-read (spelled a) c (sym e, tc))
-

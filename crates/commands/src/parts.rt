@@ -7,11 +7,14 @@ ghost use Rattle.commands.specs.Reader.{only, read-number, read-counted, read-
 
 // Houses, people and marks are numbered from 0.
 const HOUSES: u64 = 16;
+
 const PEOPLE: u64 = 64;
+
 const MARKS: u8 = 8;
 
 // In bytes.
 const LONGEST_NAME: usize = 64;
+
 const LONGEST_LETTER: usize = 65_000;
 
 // A number of eight bytes, the highest first.
@@ -27,7 +30,11 @@ fn number_below(bytes: &[u8], limit: u64) -> Option<(u64, &[u8])>
     ensures { λ r. ⌜ and-rest r ≡ only (λ n. ltb n limit) read-number (now (bytes .entry)) ⌝ }
 {
     let (value, rest) = number(bytes)?;
-    if value < limit { Some((value, rest)) } else { None }
+    if value < limit {
+        Some((value, rest))
+    } else {
+        None
+    }
 }
 
 // A number, if it is at most so much.
@@ -35,7 +42,11 @@ pub fn number_up_to(bytes: &[u8], most: u64) -> Option<(u64, &[u8])>
     ensures { λ r. ⌜ and-rest r ≡ only (λ n. leb n most) read-number (now (bytes .entry)) ⌝ }
 {
     let (value, rest) = number(bytes)?;
-    if value <= most { Some((value, rest)) } else { None }
+    if value <= most {
+        Some((value, rest))
+    } else {
+        None
+    }
 }
 
 pub fn house(bytes: &[u8]) -> Option<(u64, &[u8])>
@@ -82,7 +93,11 @@ pub fn mark(bytes: &[u8]) -> Option<(u8, &[u8])>
     ensures { λ r. ⌜ and-rest r ≡ read-mark (now (bytes .entry)) ⌝ }
 {
     let (mark, rest) = bytes.split_first()?;
-    if *mark < MARKS { Some((*mark, rest)) } else { None }
+    if *mark < MARKS {
+        Some((*mark, rest))
+    } else {
+        None
+    }
 }
 
 // A byte that is 1 for yes and 0 for no.

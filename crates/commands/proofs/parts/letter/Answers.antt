@@ -15,4 +15,4 @@ returns-then-letter-gt-LONGEST-LETTER c =
 pub returns : need.returns
 returns c =
     letter-there (c .args .bytes .now) (c .in-Continue-letter .letter .now) (c .in-Continue-letter .rest .now) (c .in-Continue-letter .ensures tt)
-        (all-bytes-typed (c .args .bytes .now) (c .typed .bytes)) (c .if-letter-gt-LONGEST-LETTER .left)
+    (all-bytes-typed (c .args .bytes .now) (c .typed .bytes)) (c .if-letter-gt-LONGEST-LETTER .left)

@@ -10,4 +10,4 @@ pub returns : need.returns
 returns c =
     let h = c .in-Continue-digits .ensures tt .cases in
     number-there (c .args .bytes .now) (c .in-Continue-digits .digits .now) (c .in-Continue-digits .rest .now) (c .from-be-bytes .result)
-        (all-bytes-typed (c .args .bytes .now) (c .typed .bytes)) (h .0) (h .1) (h .2) (c .from-be-bytes .ensures)
+    (all-bytes-typed (c .args .bytes .now) (c .typed .bytes)) (h .0) (h .1) (h .2) (c .from-be-bytes .ensures)

@@ -13,11 +13,11 @@ use super::memory::PAGE_WORDS;
 use super::memory::TO_SHOW;
 use super::memory::selector_words;
 use super::phase::Phase;
-use pages::bit;
-use pages::flip;
-use pages::next_touched;
+use pages::selectors::bit;
+use pages::selectors::flip;
+use pages::selectors::next_touched;
 use pages::places::Geometry;
-use pages::store;
+use pages::bytes::store;
 
 // A record has so many words.
 const RECORD_WORDS: u64 = 12;

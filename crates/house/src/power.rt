@@ -17,7 +17,7 @@ use super::memory::AREA;
 use super::memory::directory_words;
 use super::memory::selector_words;
 use super::phase::Phase;
-use pages::load;
+use pages::bytes::load;
 use pages::places::Geometry;
 
 const MOST_HOUSES: u64 = 16;

@@ -2,3 +2,4 @@ pub mod Memory
 pub mod Machine
 pub mod Entry
 pub mod Told
+pub mod Does

@@ -5,3 +5,5 @@ pub mod Houses
 pub mod Taken
 pub mod Writes
 pub mod Sensible
+pub mod Acts
+pub mod Touches

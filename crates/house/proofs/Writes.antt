@@ -12,7 +12,8 @@ use borrow.Author.Tests.{le-leb}
 use Rattle.model.specs.Mail.{pick, eight}
 use Rattle.model.specs.Device.{zeros}
 use Rattle.pages.specs.Words.{part, patched, bytes-of, words-in}
-use Rattle.pages.proofs.Words.{length-part, length-bytes-of, length-zeros, patched-is-putMid, length-words-in}
+use Rattle.pages.proofs.Words.{length-part, length-bytes-of, length-zeros, patched-is-putMid, length-words-in, getD-part, getD-patched-after}
+use Rattle.mailboxes.proofs.Writes.{patched-more}
 
 -- three words at the front
 pub three-set : (m : List ℕ) (a b c : ℕ) → 3 ≤ length m → set (set (set m 0 a) 1 b) 2 c ≡ patched m 0 (a ∷ b ∷ c ∷ [])
@@ -70,3 +71,15 @@ pub replicate-zeros : (n : ℕ) → replicate n 0 ≡ zeros n
 unfolding zeros
 replicate-zeros zero = refl
 replicate-zeros (suc n) = ap (λ r. 0 ∷ r) (replicate-zeros n)
+
+-- one more of the words that are to count counts
+pub counted-more : (m l : List ℕ) (n i : ℕ) → n ≤ 1088 → length m ≡ 262144 → i < n → l ≡ patched m 96 (take i (part m 1184 n)) →
+    set l (96 + i) (getD l (1184 + i) 0) ≡ patched m 96 (take (i + 1) (part m 1184 n))
+counted-more m l n i h long lt e =
+    let size : length (part m 1184 n) ≡ n = length-part m 1184 n (omega arith) in
+    let front : length (take i (part m 1184 n)) ≡ i = length-take-le i (part m 1184 n) (omega arith) in
+    let word : getD l (1184 + i) 0 ≡ getD (part m 1184 n) i 0 =
+        ap (λ x. getD x (1184 + i) 0) e ∙ getD-patched-after m 96 (take i (part m 1184 n)) (1184 + i) 0 (omega arith) (omega arith) ∙ sym (getD-part m 1184 n i 0 lt) in
+    ap (λ x. set x (96 + i) (getD l (1184 + i) 0)) e
+    ∙ ap (set (patched m 96 (take i (part m 1184 n))) (96 + i)) word
+    ∙ patched-more m 96 (part m 1184 n) i (omega arith) (omega arith)

@@ -7,3 +7,5 @@ pub mod Writes
 pub mod Sensible
 pub mod Acts
 pub mod Touches
+pub mod Powers
+pub mod Registers

@@ -2,9 +2,11 @@
 use mathlib.Core.Path.{_≡_}
 use mathlib.Core.List.{List}
 use Prim.Native.Nat.{ℕ, _+_, _*_, _≤_, _<_}
+use lib.Dec.{ltb}
 use lib.ListN.{length}
 use Rattle.std.specs.declared.result.Result.{Result}
 use Rattle.std.specs.declared.result.Result.the-variants.{Ok, Err}
+use Rattle.model.specs.Mail.{pick}
 use Rattle.model.specs.Run.{Step, read}
 use Rattle.pages.specs.Words.{patched}
 use Rattle.pages.specs.Bits.{touched}
@@ -14,7 +16,7 @@ use Rattle.house.specs.declared.phase.Phase.the-variants.{ReadDirectory}
 use Rattle.house.specs.declared.Told.{Told}
 use Rattle.house.specs.declared.Told.the-variants.{No}
 use Rattle.house.specs.Memory.{houses-count, area-of, people-of, boxes-count, counting-of, coming-of, directory-of}
-use Rattle.house.specs.Machine.{go}
+use Rattle.house.specs.Machine.{go, refuse, shows-boxes}
 use Rattle.house.specs.Entry.{Act-told}
 use Rattle.house.specs.Told.{refusal-number}
 
@@ -52,3 +54,7 @@ pub record Lends (P : ℕ) (m : List ℕ) (words : List ℕ) (people boxes : ℕ
   pub words-are : words ≡ directory-of P m
   pub people-are : people ≡ people-of m
   pub boxes-are : boxes ≡ boxes-count m
+
+-- the boxes of a person are asked for
+abbrev pub boxes-asked : ℕ → ℕ → List ℕ → Step
+boxes-asked P a m = pick (ltb a (people-of m)) (shows-boxes P a 0 m) (refuse 3 m)

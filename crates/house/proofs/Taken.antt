@@ -11,14 +11,15 @@ use borrow.Author.Tests.{eq-eqb, ne-eqb, le-leb, lt-leb}
 use Rattle.model.specs.Run.{Event, Act, refused, Step}
 use Rattle.house.specs.declared.Told.{Told}
 use Rattle.house.specs.declared.Told.the-variants.{No}
-use Rattle.house.specs.Machine.{own, act-on, memory-len}
+use Rattle.house.specs.Memory.{memory-len}
+use Rattle.house.specs.Machine.{own, stepped}
 use Rattle.house.specs.Entry.{Step-says, step-fits, event-of, Act-told}
 use Rattle.house.specs.Told.{Responds, Exported, told-numbers}
-use Rattle.house.proofs.Whole.{zeros-length}
+use Rattle.pages.proofs.Words.{length-zeros}
 
 pub start-length : length (own .start) ≡ 262144
 unfolding own
-start-length = zeros-length memory-len
+start-length = length-zeros memory-len
 
 and-false-right : (a : Bool) → a && false ≡ false
 and-false-right true = refl
@@ -51,9 +52,9 @@ module _ (memory : List ℕ) (kind : ℕ) (bytes out : List ℕ) where
   taken-step r memory₁ out₁ ev m k o e a = rw (fits m k o, ← e) a
 
 -- where the definition refuses, the memory and the row stay as they are
-pub told-no : (memory : List ℕ) (ev : Event) (k : ℕ) (out : List ℕ) → act-on ev ≡ refused k → Responds memory ev (No k) out memory out
+pub told-no : (memory : List ℕ) (ev : Event) (k : ℕ) (out : List ℕ) → stepped memory ev ≡ record { memory = memory; act = refused k } → Responds memory ev (No k) out memory out
 unfolding own Act-told
-told-no memory ev k out e = (refl, rw e (refl, refl))
+told-no memory ev k out e = (sym (ap (λ (s : Step). s .memory) e), rw e (refl, refl))
 
 -- two numbers that are both written
 two-set : (t : List ℕ) (a b : ℕ) → length t ≡ 2 → set (set t 0 a) 1 b ≡ a ∷ b ∷ []

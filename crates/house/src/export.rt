@@ -1,6 +1,6 @@
 // The step for hosts in C and Rust: numbers and slices only.
 ghost use mathlib.Core.Path.{_≡_};
-ghost use Rattle.house.specs.Machine.{memory-len};
+ghost use Rattle.house.specs.Memory.{memory-len};
 ghost use Rattle.house.specs.Told.{Exported, told-numbers};
 use super::MEMORY_LEN;
 use super::Told;

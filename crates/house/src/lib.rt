@@ -1,8 +1,13 @@
 // The house as a machine: one step takes a memory and an event to the memory afterwards and one act. The step is the definition `own`, for
 // every memory and every event, and of that definition the promise of the whole post is proved. It knows no files, no clock and no chance.
+mod commit;
 mod event;
 mod export;
 pub mod kind;
+mod memory;
+mod people;
+mod phase;
+mod power;
 mod refusal;
 
 ghost use mathlib.Core.Path.{_≡_};
@@ -11,14 +16,16 @@ ghost use lib.ListN.{length};
 ghost use Rattle.model.specs.Known.{nothing};
 ghost use Rattle.model.specs.Promise.{Whole};
 ghost use Rattle.house.specs.Entry.{Step-says, step-fits};
-ghost use Rattle.house.specs.Machine.{own, unknown};
-ghost use Rattle.house.specs.Told.{told-refusal, Responds, event-meant};
-ghost use Rattle.commands.specs.Reader.{command-of};
+ghost use Rattle.house.specs.Machine.{own};
+ghost use Rattle.house.specs.Told.{Responds, event-meant};
 pub use event::Event;
+pub use memory::MEMORY_LEN;
+pub use phase::Phase;
 pub use refusal::Refusal;
-
-// How many numbers a house's memory has.
-pub const MEMORY_LEN: usize = 262_144;
+use commands::Command;
+use memory::PAGE_LEN;
+use memory::sensible;
+use pages::places::Geometry;
 
 // How many bytes the lent row for pages, rows and radio letters has at least.
 pub const OUT_LEN: usize = 131_072;
@@ -37,13 +44,71 @@ pub enum Told {
     No(u64),
 }
 
-// Why a text is not carried out: it is no command, or none that is known.
-fn refuse(text: &[u8]) -> Refusal
-    ensures { λ r. ⌜ told-refusal r ≡ unknown (command-of (now (text .entry))) ⌝ }
+// What is told out of turn changes nothing.
+fn out_of_turn() -> Told
+    ensures { λ r. ⌜ r ≡ Told.No 1 ⌝ }
 {
+    Told::No(Refusal::NoCommand.number())
+}
+
+// A command, at rest.
+fn obey(memory: &mut [u64], geometry: &Geometry, text: &[u8], out: &mut [u8]) -> Result<Told, Refusal> {
     match commands::read(text) {
-        None => Refusal::NoCommand,
-        Some(_) => Refusal::Unknown,
+        None => Err(Refusal::NoCommand),
+        Some(Command::Join { name }) => people::join(memory, geometry, name, out),
+        Some(Command::Boxes { person }) => people::boxes(memory, geometry, person, out),
+        Some(Command::NewBox { person, name }) => people::new_box(memory, geometry, person, name, out),
+        Some(_) => Err(Refusal::Unknown),
+    }
+}
+
+fn told_command(memory: &mut [u64], text: &[u8], out: &mut [u8]) -> Told {
+    let Some(geometry) = sensible(memory) else {
+        return out_of_turn();
+    };
+    let Phase::Idle = Phase::load(memory) else {
+        return out_of_turn();
+    };
+    match obey(memory, &geometry, text, out) {
+        Ok(told) => told,
+        Err(refusal) => Told::No(refusal.number()),
+    }
+}
+
+fn told_page(memory: &mut [u64], page: &[u8]) -> Told {
+    let Some(geometry) = sensible(memory) else {
+        return out_of_turn();
+    };
+    if page.len() != PAGE_LEN {
+        return out_of_turn();
+    }
+    match Phase::load(memory) {
+        Phase::ReadHeader => power::header_read(memory, &geometry, page),
+        Phase::ReadSelectors(q) => power::selectors_read(memory, &geometry, q, page),
+        Phase::ReadDirectory(t) => power::directory_read(memory, &geometry, t, page),
+        _ => out_of_turn(),
+    }
+}
+
+fn told_next(memory: &mut [u64], out: &mut [u8]) -> Told {
+    let Some(geometry) = sensible(memory) else {
+        return out_of_turn();
+    };
+    match Phase::load(memory) {
+        Phase::ShowBoxes(person, from) => people::show_box(memory, &geometry, person, from, out),
+        Phase::WriteTable(from) => commit::commit(memory, &geometry, from, out),
+        Phase::WriteSelectors(q) => commit::selectors_next(memory, &geometry, q, out),
+        Phase::WriteHeader => commit::write_header(memory, out),
+        Phase::FlushHeader => {
+            Phase::Committed.store(memory);
+            Told::Flush
+        }
+        Phase::Committed => commit::committed(memory, &geometry, out),
+        Phase::Shown => {
+            Phase::Idle.store(memory);
+            Told::Done
+        }
+        _ => out_of_turn(),
     }
 }
 
@@ -53,9 +118,11 @@ fn respond(memory: &mut [u64], event: Event<'_>, out: &mut [u8]) -> Told
     ensures { λ r. ⌜ Responds (now (memory .entry)) (event-meant (event .entry)) r (now (out .entry)) (now (memory .exit)) (now (out .exit)) ⌝ }
 {
     match event {
-        Event::Power(_, _, _) => Told::Done,
-        Event::Said(text) => Told::No(refuse(text).number()),
-        Event::Page(_) | Event::Next | Event::Heard(_) | Event::Lost => Told::No(Refusal::NoCommand.number()),
+        Event::Power(house, houses, pages) => power::begin(memory, house, houses, pages),
+        Event::Said(text) => told_command(memory, text, out),
+        Event::Page(page) => told_page(memory, page),
+        Event::Next => told_next(memory, out),
+        Event::Heard(_) | Event::Lost => out_of_turn(),
     }
 }
 

@@ -9,3 +9,4 @@ pub mod Acts
 pub mod Touches
 pub mod Powers
 pub mod Registers
+pub mod Joins

@@ -10,3 +10,4 @@ pub mod Touches
 pub mod Powers
 pub mod Registers
 pub mod Joins
+pub mod Turns

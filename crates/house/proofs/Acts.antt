@@ -68,3 +68,9 @@ refused-quietly m k k₁ e f = quietly-as (No k₁) m f (refl, told-refused k k�
 
 pub refused-does : {s : Step} (m out : List ℕ) (k k₁ : ℕ) → k₁ ≡ k → s ≡ refuse k m → Does s (No k₁) out m out
 refused-does m out k k₁ e f = does-as (No k₁) out m out f (refl, told-refused k k₁ e out)
+
+pub out-quietly : {s : Step} (m : List ℕ) (r : Told) → r ≡ No 1 → s ≡ refuse 1 m → Quietly s r m
+out-quietly {s} m r e f = subst (λ x. Quietly s x m) (sym e) (refused-quietly m 1 1 refl f)
+
+pub out-does : {s : Step} (m out : List ℕ) (r : Told) → r ≡ No 1 → s ≡ refuse 1 m → Does s r out m out
+out-does {s} m out r e f = subst (λ x. Does s x out m out) (sym e) (refused-does m out 1 1 refl f)

@@ -30,3 +30,5 @@ pub mod Keeps
 pub mod SteadyParts
 pub mod Steady
 pub mod Whole
+pub mod Joins
+pub mod Turns

@@ -7,7 +7,7 @@ use lib.Dec.{ltb, leb}
 use lib.ListN.{length, getD, set, take, drop, length-set}
 use native.Mathlib.Omega.{arith}
 use borrow.Rule.Slice.PartMut.{putMid}
-use Rattle.std.proofs.shelf.Tests.{and-parts, leb-true, cases-bool}
+use Rattle.std.proofs.shelf.Tests.{and-parts, leb-true, lt-leb, le-leb}
 use Rattle.model.specs.Mail.{pick}
 use Rattle.pages.specs.Words.{part, patched}
 use Rattle.pages.specs.Geometry.{directory-pages}
@@ -32,6 +32,15 @@ room-says P more m h =
     not-false : (t : Bool) → not t ≡ false → t ≡ true
     not-false true e = refl
     not-false false e = sym e
+
+pub room-no-weight : (P more : ℕ) (m : List ℕ) (p : ℕ) → p ≡ P → 256 ≤ P → more ≤ 776 → 128 * p - more < weight-of m → true ≡ no-room P more m
+unfolding no-room
+room-no-weight P more m p e l k h = rw (lt-leb (weight-of m + more) (128 * P) (omega arith))
+
+pub room-for-weight : (P more : ℕ) (m : List ℕ) (p d : ℕ) → p ≡ P → 256 ≤ P → more ≤ 776 → weight-of m ≤ 128 * p - more → d ≡ 64 * directory-pages P →
+    not (leb (864 + 12 * (boxes-count m + 1)) d) ≡ no-room P more m
+unfolding no-room
+room-for-weight P more m p d e l k h is = rw (le-leb (weight-of m + more) (128 * P) (omega arith)) (ap (λ n. not (leb (864 + 12 * (boxes-count m + 1)) n)) is)
 
 -- the counts, the weight, and what is to be shown
 pub person-registers : (l : List ℕ) (a b w x : ℕ) → length l ≡ 262144 →

@@ -13,11 +13,12 @@ mod refusal;
 ghost use mathlib.Core.Path.{_≡_};
 ghost use Prim.Native.Nat.{_≤_};
 ghost use lib.ListN.{length};
-ghost use Rattle.model.specs.Known.{nothing};
-ghost use Rattle.model.specs.Promise.{Whole};
+ghost use Rattle.model.specs.Run.{said as said-event, page as page-event, next as next-event};
+ghost use Rattle.commands.specs.Reader.{command-of};
 ghost use Rattle.house.specs.Entry.{Step-says, step-fits};
-ghost use Rattle.house.specs.Machine.{own};
+ghost use Rattle.house.specs.Machine.{obeys, stepped};
 ghost use Rattle.house.specs.Told.{Responds, event-meant};
+ghost use Rattle.house.specs.Does.{Ready, Does, Quietly, told-result};
 pub use event::Event;
 pub use memory::MEMORY_LEN;
 pub use phase::Phase;
@@ -52,17 +53,26 @@ fn out_of_turn() -> Told
 }
 
 // A command, at rest.
-fn obey(memory: &mut [u64], geometry: &Geometry, text: &[u8], out: &mut [u8]) -> Result<Told, Refusal> {
-    match commands::read(text) {
-        None => Err(Refusal::NoCommand),
-        Some(Command::Join { name }) => people::join(memory, geometry, name, out),
-        Some(Command::Boxes { person }) => people::boxes(memory, geometry, person, out),
-        Some(Command::NewBox { person, name }) => people::new_box(memory, geometry, person, name, out),
-        Some(_) => Err(Refusal::Unknown),
+fn obey(memory: &mut [u64], geometry: &Geometry, text: &[u8], out: &mut [u8]) -> Result<Told, Refusal>
+    requires { ⌜ Ready (now geometry .pages) (now memory) ⌝ ∗ ⌜ 131072 ≤ length (now out) ⌝ }
+    ensures { λ r. ⌜ Does (obeys (now (geometry .entry) .pages) (command-of (now (text .entry))) (now (memory .entry))) (told-result r) (now (out .entry)) (now (memory .exit)) (now (out .exit)) ⌝ }
+{
+    let Some(command) = commands::read(text) else {
+        return Err(Refusal::NoCommand);
+    };
+    match command {
+        Command::Join { name } => people::join(memory, geometry, name, out),
+        Command::Boxes { person } => people::boxes(memory, geometry, person, out),
+        Command::NewBox { person, name } => people::new_box(memory, geometry, person, name, out),
+        _ => Err(Refusal::Unknown),
     }
 }
 
-fn told_command(memory: &mut [u64], text: &[u8], out: &mut [u8]) -> Told {
+// A command is heard at rest only.
+fn told_command(memory: &mut [u64], text: &[u8], out: &mut [u8]) -> Told
+    requires { ⌜ 131072 ≤ length (now out) ⌝ }
+    ensures { λ r. ⌜ Does (stepped (now (memory .entry)) (said-event (now (text .entry)))) r (now (out .entry)) (now (memory .exit)) (now (out .exit)) ⌝ }
+{
     let Some(geometry) = sensible(memory) else {
         return out_of_turn();
     };
@@ -75,7 +85,10 @@ fn told_command(memory: &mut [u64], text: &[u8], out: &mut [u8]) -> Told {
     }
 }
 
-fn told_page(memory: &mut [u64], page: &[u8]) -> Told {
+// A page that was asked for, in a phase that asked for one.
+fn told_page(memory: &mut [u64], page: &[u8]) -> Told
+    ensures { λ r. ⌜ Quietly (stepped (now (memory .entry)) (page-event (now (page .entry)))) r (now (memory .exit)) ⌝ }
+{
     let Some(geometry) = sensible(memory) else {
         return out_of_turn();
     };
@@ -90,7 +103,11 @@ fn told_page(memory: &mut [u64], page: &[u8]) -> Told {
     }
 }
 
-fn told_next(memory: &mut [u64], out: &mut [u8]) -> Told {
+// The last act is done.
+fn told_next(memory: &mut [u64], out: &mut [u8]) -> Told
+    requires { ⌜ 131072 ≤ length (now out) ⌝ }
+    ensures { λ r. ⌜ Does (stepped (now (memory .entry)) next-event) r (now (out .entry)) (now (memory .exit)) (now (out .exit)) ⌝ }
+{
     let Some(geometry) = sensible(memory) else {
         return out_of_turn();
     };
@@ -130,7 +147,6 @@ fn respond(memory: &mut [u64], event: Event<'_>, out: &mut [u8]) -> Told
 // and then nothing changes.
 pub fn step(memory: &mut [u64], kind: u64, bytes: &[u8], out: &mut [u8]) -> Told
     ensures says { λ r. ⌜ Step-says (now (memory .entry)) kind (now (bytes .entry)) (now (out .entry)) (step-fits (now (memory .entry)) kind (now (bytes .entry)) (now (out .entry))) r (now (memory .exit)) (now (out .exit)) ⌝ }
-    ensures whole { λ _. ⌜ Whole nothing own ⌝ }
 {
     if memory.len() != MEMORY_LEN || out.len() < OUT_LEN {
         return Told::No(0);

@@ -1,4 +1,11 @@
 // The commands on people and boxes: join, new box and boxes.
+ghost use mathlib.Core.Path.{_≡_};
+ghost use mathlib.Core.Bool.{false, not};
+ghost use Prim.Native.Nat.{_<_, _≤_};
+ghost use lib.ListN.{length};
+ghost use Rattle.house.specs.Memory.{people-of};
+ghost use Rattle.house.specs.Machine.{no-room, person-added, joins, box-added, makes-box, shows-boxes};
+ghost use Rattle.house.specs.Does.{Ready, Lends, Does, told-result, boxes-asked};
 use super::Refusal;
 use super::Told;
 use super::commit::commit;
@@ -26,29 +33,45 @@ const KEPT_OF_PAGE: u64 = 128;
 const BOXES_PLACE: u64 = 864;
 const RECORD_WORDS: u64 = 12;
 
-fn directory<'a>(memory: &'a [u64], geometry: &Geometry) -> Directory<'a> {
+// The directory in the memory.
+fn directory<'a>(memory: &'a [u64], geometry: &Geometry) -> Directory<'a>
+    requires { ⌜ Ready (now geometry .pages) (now memory) ⌝ }
+    ensures { λ r. ⌜ Lends (now (geometry .entry) .pages) (now (memory .entry)) (now (r .words)) (r .people) (r .boxes) ⌝ }
+{
     Directory::new(&memory[DIRECTORY..DIRECTORY + directory_words(geometry)], memory[PEOPLE], memory[BOXES])
 }
 
 // Whether so much more can be kept, and there is a place for one more box.
-fn room(memory: &[u64], geometry: &Geometry, more: u64) -> bool {
+fn room(memory: &[u64], geometry: &Geometry, more: u64) -> bool
+    requires { ⌜ Ready (now geometry .pages) (now memory) ⌝ ∗ ⌜ more ≤ 776 ⌝ }
+    ensures { λ r. ⌜ not r ≡ no-room (now (geometry .entry) .pages) more (now (memory .entry)) ⌝ }
+{
     let most = KEPT_OF_PAGE * geometry.page_count();
-    memory[WEIGHT] <= most - more && BOXES_PLACE + RECORD_WORDS * (memory[BOXES] + 1) <= directory_words(geometry) as u64
+    if memory[WEIGHT] > most - more {
+        return false;
+    }
+    BOXES_PLACE + RECORD_WORDS * (memory[BOXES] + 1) <= directory_words(geometry) as u64
 }
 
-fn add_person(memory: &mut [u64], geometry: &Geometry, name: &[u8]) {
-    let people = memory[PEOPLE];
-    let boxes = memory[BOXES];
+fn add_person(memory: &mut [u64], geometry: &Geometry, name: &[u8])
+    requires { ⌜ Ready (now geometry .pages) (now memory) ⌝ ∗ ⌜ people-of (now memory) < 64 ⌝ ∗ ⌜ length (now name) ≤ 64 ⌝ ∗ ⌜ no-room (now geometry .pages) 776 (now memory) ≡ false ⌝ }
+    ensures { λ _. ⌜ now (memory .exit) ≡ person-added (now (geometry .entry) .pages) (now (name .entry)) (now (memory .entry)) ⌝ }
+{
+    let (people, boxes, weight) = (memory[PEOPLE], memory[BOXES], memory[WEIGHT]);
     mailboxes::add_person(&mut memory[DIRECTORY..DIRECTORY + directory_words(geometry)], people, boxes, name);
     touch_record(memory, geometry, RECORD_WORDS * people);
     touch_record(memory, geometry, BOXES_PLACE + RECORD_WORDS * boxes);
     memory[PEOPLE] = people + 1;
     memory[BOXES] = boxes + 1;
-    memory[WEIGHT] += PERSON_WEIGHT;
+    memory[WEIGHT] = weight + PERSON_WEIGHT;
     memory[TO_SHOW] = people + 1;
 }
 
-pub fn join(memory: &mut [u64], geometry: &Geometry, name: &[u8], out: &mut [u8]) -> Result<Told, Refusal> {
+// A new person with the box "in"; their number is shown after the commit.
+pub fn join(memory: &mut [u64], geometry: &Geometry, name: &[u8], out: &mut [u8]) -> Result<Told, Refusal>
+    requires { ⌜ Ready (now geometry .pages) (now memory) ⌝ ∗ ⌜ length (now name) ≤ 64 ⌝ ∗ ⌜ 131072 ≤ length (now out) ⌝ }
+    ensures { λ r. ⌜ Does (joins (now (geometry .entry) .pages) (now (name .entry)) (now (memory .entry))) (told-result r) (now (out .entry)) (now (memory .exit)) (now (out .exit)) ⌝ }
+{
     if directory(memory, geometry).find_person(name).is_some() {
         return Err(Refusal::Taken);
     }
@@ -62,16 +85,23 @@ pub fn join(memory: &mut [u64], geometry: &Geometry, name: &[u8], out: &mut [u8]
     Ok(commit(memory, geometry, 0, out))
 }
 
-fn add_box(memory: &mut [u64], geometry: &Geometry, person: u64, name: &[u8]) {
-    let boxes = memory[BOXES];
+fn add_box(memory: &mut [u64], geometry: &Geometry, person: u64, name: &[u8])
+    requires { ⌜ Ready (now geometry .pages) (now memory) ⌝ ∗ ⌜ person < 64 ⌝ ∗ ⌜ length (now name) ≤ 64 ⌝ ∗ ⌜ no-room (now geometry .pages) 256 (now memory) ≡ false ⌝ }
+    ensures { λ _. ⌜ now (memory .exit) ≡ box-added (now (geometry .entry) .pages) person (now (name .entry)) (now (memory .entry)) ⌝ }
+{
+    let (boxes, weight) = (memory[BOXES], memory[WEIGHT]);
     mailboxes::add_box(&mut memory[DIRECTORY..DIRECTORY + directory_words(geometry)], boxes, person, name);
     touch_record(memory, geometry, BOXES_PLACE + RECORD_WORDS * boxes);
     memory[BOXES] = boxes + 1;
-    memory[WEIGHT] += BOX_WEIGHT;
+    memory[WEIGHT] = weight + BOX_WEIGHT;
     memory[TO_SHOW] = 0;
 }
 
-pub fn new_box(memory: &mut [u64], geometry: &Geometry, person: u64, name: &[u8], out: &mut [u8]) -> Result<Told, Refusal> {
+// A new box of a person, empty and behind all others.
+pub fn new_box(memory: &mut [u64], geometry: &Geometry, person: u64, name: &[u8], out: &mut [u8]) -> Result<Told, Refusal>
+    requires { ⌜ Ready (now geometry .pages) (now memory) ⌝ ∗ ⌜ length (now name) ≤ 64 ⌝ ∗ ⌜ 131072 ≤ length (now out) ⌝ }
+    ensures { λ r. ⌜ Does (makes-box (now (geometry .entry) .pages) person (now (name .entry)) (now (memory .entry))) (told-result r) (now (out .entry)) (now (memory .exit)) (now (out .exit)) ⌝ }
+{
     if person >= memory[PEOPLE] {
         return Err(Refusal::NotThere);
     }
@@ -90,23 +120,27 @@ pub fn new_box(memory: &mut [u64], geometry: &Geometry, person: u64, name: &[u8]
 }
 
 // The row of the next box of a person from a place on; after the last one the command is done.
-pub fn show_box(memory: &mut [u64], geometry: &Geometry, person: u64, from: u64, out: &mut [u8]) -> Told {
-    match directory(memory, geometry).next_box(person, from) {
-        None => {
-            Phase::Idle.store(memory);
-            Told::Done
-        }
-        Some(index) => {
-            let Some(len) = directory(memory, geometry).box_row(index, out) else {
-                return Told::No(Refusal::NoCommand.number());
-            };
-            Phase::ShowBoxes(person, index + 1).store(memory);
-            Told::Shows(len)
-        }
-    }
+pub fn show_box(memory: &mut [u64], geometry: &Geometry, person: u64, from: u64, out: &mut [u8]) -> Told
+    requires { ⌜ Ready (now geometry .pages) (now memory) ⌝ ∗ ⌜ 131072 ≤ length (now out) ⌝ }
+    ensures { λ r. ⌜ Does (shows-boxes (now (geometry .entry) .pages) person from (now (memory .entry))) r (now (out .entry)) (now (memory .exit)) (now (out .exit)) ⌝ }
+{
+    let directory = directory(memory, geometry);
+    let Some(index) = directory.next_box(person, from) else {
+        Phase::Idle.store(memory);
+        return Told::Done;
+    };
+    let Some(len) = directory.box_row(index, out) else {
+        return Told::No(Refusal::NoCommand.number());
+    };
+    Phase::ShowBoxes(person, index + 1).store(memory);
+    Told::Shows(len)
 }
 
-pub fn boxes(memory: &mut [u64], geometry: &Geometry, person: u64, out: &mut [u8]) -> Result<Told, Refusal> {
+// The boxes of a person, one row after the other.
+pub fn boxes(memory: &mut [u64], geometry: &Geometry, person: u64, out: &mut [u8]) -> Result<Told, Refusal>
+    requires { ⌜ Ready (now geometry .pages) (now memory) ⌝ ∗ ⌜ 131072 ≤ length (now out) ⌝ }
+    ensures { λ r. ⌜ Does (boxes-asked (now (geometry .entry) .pages) person (now (memory .entry))) (told-result r) (now (out .entry)) (now (memory .exit)) (now (out .exit)) ⌝ }
+{
     if person >= memory[PEOPLE] {
         return Err(Refusal::NotThere);
     }

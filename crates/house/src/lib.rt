@@ -13,10 +13,12 @@ mod refusal;
 ghost use mathlib.Core.Path.{_≡_};
 ghost use Prim.Native.Nat.{_≤_};
 ghost use lib.ListN.{length};
+ghost use Rattle.model.specs.Promise.{Whole};
 ghost use Rattle.model.specs.Run.{said as said-event, page as page-event, next as next-event};
 ghost use Rattle.commands.specs.Reader.{command-of};
 ghost use Rattle.house.specs.Entry.{Step-says, step-fits};
-ghost use Rattle.house.specs.Machine.{obeys, stepped};
+ghost use Rattle.house.specs.Knows.{known};
+ghost use Rattle.house.specs.Machine.{obeys, own, stepped};
 ghost use Rattle.house.specs.Told.{Responds, event-meant};
 ghost use Rattle.house.specs.Does.{Ready, Does, Quietly, told-result};
 pub use event::Event;
@@ -147,6 +149,7 @@ fn respond(memory: &mut [u64], event: Event<'_>, out: &mut [u8]) -> Told
 // and then nothing changes.
 pub fn step(memory: &mut [u64], kind: u64, bytes: &[u8], out: &mut [u8]) -> Told
     ensures says { λ r. ⌜ Step-says (now (memory .entry)) kind (now (bytes .entry)) (now (out .entry)) (step-fits (now (memory .entry)) kind (now (bytes .entry)) (now (out .entry))) r (now (memory .exit)) (now (out .exit)) ⌝ }
+    ensures whole { λ _. ⌜ Whole known own ⌝ }
 {
     if memory.len() != MEMORY_LEN || out.len() < OUT_LEN {
         return Told::No(0);

@@ -1,4 +1,6 @@
 // One sitting of a house: power, and then a command for each line of standard input.
+use hex::from_hex;
+use hex::to_hex;
 use host::AllocFault;
 use host::Ended;
 use host::Fault;
@@ -7,8 +9,6 @@ use host::Machine;
 use host::PageFile;
 use host::PageFileDisk;
 use host::Rows;
-use host::from_hex;
-use host::to_hex;
 use std::io;
 use std::io::BufRead;
 use std::io::BufReader;

@@ -7,7 +7,7 @@ use Rattle.std.proofs.shelf.Lists.{take-rest, nil-from-length, append-nil}
 use native.Mathlib.Omega.{arith}
 use Rattle.std.specs.declared.option.Option.{Option}
 use Rattle.std.specs.declared.option.Option.the-variants.{Some, None}
-use Rattle.host.specs.Hex.{digit, before, with-byte, pair-value, hexed, unhexed}
+use Rattle.hex.specs.Hex.{digit, before, with-byte, pair-value, hexed, unhexed}
 
 pub before-nil : (o : Option (List ℕ)) → before [] o ≡ o
 before-nil None = refl

@@ -4,14 +4,7 @@ mod disk;
 mod machine;
 
 pub use disk::Disk;
-pub use disk::FIRST_PAGES;
-pub use disk::IoOpenError;
-pub use disk::MOST_PAGES;
-pub use disk::OpenError;
-pub use disk::OpenErrorDisplay;
 pub use disk::PAGE_LEN;
-pub use disk::PageFile;
-pub use disk::PageFileDisk;
 pub use machine::AllocFault;
 pub use machine::Ended;
 pub use machine::Fault;

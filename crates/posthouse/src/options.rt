@@ -76,7 +76,7 @@ fn pages(word: Option<String>) -> Result<Option<u64>, &'static str>
         None => Ok(None),
         Some(text) => match text.as_str().parse::<u64>() {
             Ok(n) => {
-                if n < host::FIRST_PAGES || n > host::MOST_PAGES {
+                if n < pagefile::FIRST_PAGES || n > pagefile::MOST_PAGES {
                     return Err(BAD_PAGES);
                 }
                 Ok(Some(n))

@@ -40,9 +40,9 @@ module _ (text bs rest : List ℕ) (so-far : unhexed text ≡ before bs (unhexed
   turn-none l e = sym (so-far ∙ ap (before bs) (unhexed-pair rest l ∙ ap (λ o. with-byte o (unhexed (drop 2 rest))) (sym e)))
 
   pub turn-some : (b : ℕ) (bs₁ : List ℕ) → 2 ≤ length rest → Some b ≡ pair-value (getD rest 0 0) (getD rest 1 0) → bs₁ ≡ bs ++ b ∷ []
-    → unhexed text ≡ before bs₁ (unhexed (take (length rest - 2) (drop 2 rest)))
+      → unhexed text ≡ before bs₁ (unhexed (take (length rest - 2) (drop 2 rest)))
   turn-some b bs₁ l e p =
-    so-far ∙ ap (before bs) (unhexed-pair rest l ∙ ap (λ o. with-byte o (unhexed (drop 2 rest))) (sym e)) ∙ before-push bs b (unhexed (drop 2 rest))
+      so-far ∙ ap (before bs) (unhexed-pair rest l ∙ ap (λ o. with-byte o (unhexed (drop 2 rest))) (sym e)) ∙ before-push bs b (unhexed (drop 2 rest))
       ∙ ap (λ xs. before xs (unhexed (drop 2 rest))) (sym p) ∙ ap (λ r. before bs₁ (unhexed r)) (sym (take-rest rest 2))
 
   pub turn-end : length rest ≡ 0 → Some bs ≡ unhexed text

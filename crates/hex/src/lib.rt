@@ -47,7 +47,11 @@ pub fn from_hex(heap: Global, text: &[u8]) -> Result<Option<Vec<u8>>, AllocError
         bytes.push(byte)?;
         rest = &rest[2..rest.len()];
     }
-    if rest.is_empty() { Ok(Some(bytes)) } else { Ok(None) }
+    if rest.is_empty() {
+        Ok(Some(bytes))
+    } else {
+        Ok(None)
+    }
 }
 
 fn digit_of(n: u8) -> char

@@ -6,12 +6,10 @@ ghost use Rattle.std.specs.Results.{Cases};
 ghost use Rattle.std.specs.Vec.{made};
 use host::Disk;
 use std::fmt;
-use std::fs;
 use std::fs::File;
 use std::fs::OpenFile;
 use std::fs::OpenOptions;
 use std::io;
-use std::io::ErrorKind;
 use std::io::Read;
 use std::io::Seek;
 use std::io::SeekFrom;
@@ -22,6 +20,7 @@ const PAGE_BYTES: u64 = 512;
 
 // A house has at least so many pages, and at most so many.
 pub const FIRST_PAGES: u64 = 256;
+
 pub const MOST_PAGES: u64 = 1_048_576;
 
 // A file of pages that is open for reading and writing.
@@ -92,9 +91,18 @@ pub impl From<io::Error> for OpenError as IoOpenError {
 pub impl fmt::Display for OpenError as OpenErrorDisplay {
     fn fmt<W: fmt::Write>(&self, f: &mut fmt::Formatter<W>) -> fmt::Result {
         match self {
-            OpenError::Io(e) => write!(f, "{e}; it must be a file of pages that may be read and written, or a new name in a folder that is there"),
-            OpenError::NotPages(len) => write!(f, "it has {len} bytes, which is not a number of pages of 512 bytes: is it another file?"),
-            OpenError::Pages(pages) => write!(f, "{pages} pages of 512 bytes, but a house has 256 to 1048576: name another file"),
+            OpenError::Io(e) => write!(
+                f,
+                "{e}; it must be a file of pages that may be read and written, or a new name in a folder that is there"
+            ),
+            OpenError::NotPages(len) => write!(
+                f,
+                "it has {len} bytes, which is not a number of pages of 512 bytes: is it another file?"
+            ),
+            OpenError::Pages(pages) => write!(
+                f,
+                "{pages} pages of 512 bytes, but a house has 256 to 1048576: name another file"
+            ),
         }
     }
 }
@@ -139,6 +147,7 @@ impl PageFile {
 mod tests {
     use super::*;
     use host::PAGE_LEN;
+    use std::fs;
     use std::test::*;
 
     const FILE: &str = "pages.test";

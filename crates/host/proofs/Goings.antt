@@ -18,19 +18,19 @@ use Rattle.host.specs.Goes.{Means, Did, Goes, at-done, at-refused, on-from, To
 
 -- a step on a memory of the right length and a long enough row is a step of the definition
 told-by : (m : List ℕ) (kind : ℕ) (bytes row : List ℕ) (r : Told) (m₁ row₁ : List ℕ) → length m ≡ 262144 → kind ≤ 5 → 131072 ≤ length row
-  → Step-says m kind bytes row (step-fits m kind bytes row) r m₁ row₁ → Told-by m row (event-of kind bytes) r m₁ row₁
+    → Step-says m kind bytes row (step-fits m kind bytes row) r m₁ row₁ → Told-by m row (event-of kind bytes) r m₁ row₁
 unfolding Step-says step-fits
 told-by m kind bytes row r m₁ row₁ l k o says =
-  let fits : step-fits m kind bytes row ≡ true = rw (eq-eqb (length m) (length (own .start)) (l ∙ sym start-length), le-leb kind 5 k, le-leb 131072 (length row) o) in
-  subst (λ b. Step-says m kind bytes row b r m₁ row₁) fits says
+    let fits : step-fits m kind bytes row ≡ true = rw (eq-eqb (length m) (length (own .start)) (l ∙ sym start-length), le-leb kind 5 k, le-leb 131072 (length row) o) in
+    subst (λ b. Step-says m kind bytes row b r m₁ row₁) fits says
 
 -- the same where memory and row are lent, and come back
 pub told-lent : (m ms row rs : List ℕ) (n k kind : ℕ) (bytes : List ℕ) (r : Told) (m₁ row₁ rest more : List ℕ) → ms ≡ m → rs ≡ row → length ms ≡ 262144 → kind ≤ 5 → 131072 ≤ length rs
-  → length m₁ ≡ n → length row₁ ≡ k → Step-says ms kind bytes rs (step-fits ms kind bytes rs) r m₁ row₁ → Told-by m row (event-of kind bytes) r (take n (m₁ ++ rest)) (take k (row₁ ++ more))
+    → length m₁ ≡ n → length row₁ ≡ k → Step-says ms kind bytes rs (step-fits ms kind bytes rs) r m₁ row₁ → Told-by m row (event-of kind bytes) r (take n (m₁ ++ rest)) (take k (row₁ ++ more))
 told-lent m ms row rs n k kind bytes r m₁ row₁ rest more em er l b o n₁ k₁ says =
-  let t : Told-by ms rs (event-of kind bytes) r m₁ row₁ = told-by ms kind bytes rs r m₁ row₁ l b o says in
-  let u : Told-by m row (event-of kind bytes) r m₁ row₁ = subst (λ x. Told-by m x (event-of kind bytes) r m₁ row₁) er (subst (λ x. Told-by x rs (event-of kind bytes) r m₁ row₁) em t) in
-  subst (λ x. Told-by m row (event-of kind bytes) r (take n (m₁ ++ rest)) x) (sym (take-at row₁ more k k₁)) (subst (λ x. Told-by m row (event-of kind bytes) r x row₁) (sym (take-at m₁ rest n n₁)) u)
+    let t : Told-by ms rs (event-of kind bytes) r m₁ row₁ = told-by ms kind bytes rs r m₁ row₁ l b o says in
+    let u : Told-by m row (event-of kind bytes) r m₁ row₁ = subst (λ x. Told-by m x (event-of kind bytes) r m₁ row₁) er (subst (λ x. Told-by x rs (event-of kind bytes) r m₁ row₁) em t) in
+    subst (λ x. Told-by m row (event-of kind bytes) r (take n (m₁ ++ rest)) x) (sym (take-at row₁ more k k₁)) (subst (λ x. Told-by m row (event-of kind bytes) r x row₁) (sym (take-at m₁ rest n n₁)) u)
 
 -- what the kinds of events tell
 pub said-is : (bs : List ℕ) → event-of 1 bs ≡ said bs
@@ -109,18 +109,18 @@ module _ {D R : Type 0} (w : Means D R) where
 
     -- the page was lent, and came back
     pub after-read : (k n : ℕ) (into rest : List ℕ) (d₁ : D) → told ≡ Read k → length into ≡ 512 → length into ≡ n → w .gave d k into d₁
-      → Told-by m row (page (take n (into ++ rest))) t m₁ row₁ → After w told m row d r t m₁ row₁ d₁ r
+        → Told-by m row (page (take n (into ++ rest))) t m₁ row₁ → After w told m row d r t m₁ row₁ d₁ r
     after-read k n into rest d₁ e l ln g u = after-as (Read k) d₁ r e (into, l, g, refl, told-as m row _ _ t m₁ row₁ (ap page (take-at into rest n ln)) u)
 
     pub after-write : (k : ℕ) (part : List ℕ) (d₁ : D) (ev : Event) → told ≡ Write k → part ≡ take 512 row → w .took d k part d₁ → ev ≡ next
-      → Told-by m row ev t m₁ row₁ → After w told m row d r t m₁ row₁ d₁ r
+        → Told-by m row ev t m₁ row₁ → After w told m row d r t m₁ row₁ d₁ r
     after-write k part d₁ ev e p g n u = after-as (Write k) d₁ r e (subst (λ x. w .took d k x d₁) p g, refl, told-as m row ev next t m₁ row₁ n u)
 
     pub after-flush : (d₁ : D) (ev : Event) → told ≡ Flush → w .kept d d₁ → ev ≡ next → Told-by m row ev t m₁ row₁ → After w told m row d r t m₁ row₁ d₁ r
     after-flush d₁ ev e g n u = after-as Flush d₁ r e (g, refl, told-as m row ev next t m₁ row₁ n u)
 
     pub after-shows : (n : ℕ) (part : List ℕ) (r₁ : R) (ev : Event) → told ≡ Shows n → part ≡ take n row → w .showed r part r₁ → ev ≡ next
-      → Told-by m row ev t m₁ row₁ → After w told m row d r t m₁ row₁ d r₁
+        → Told-by m row ev t m₁ row₁ → After w told m row d r t m₁ row₁ d r₁
     after-shows n part r₁ ev e p g q u = after-as (Shows n) d r₁ e (subst (λ x. w .showed r x r₁) p g, refl, told-as m row ev next t m₁ row₁ q u)
 
     pub after-send : (n : ℕ) (ev : Event) → told ≡ Send n → ev ≡ lost → Told-by m row ev t m₁ row₁ → After w told m row d r t m₁ row₁ d r
@@ -128,11 +128,11 @@ module _ {D R : Type 0} (w : Means D R) where
 
   pub ends-done : (told : Told) (m row : List ℕ) (d : D) (r : R) → told ≡ Done → Ends w told m row d r Is-done m d r
   ends-done told m row d r e =
-    subst (λ x. Ends w x m row d r Is-done m d r) (sym e) (λ m₀ row₀ ev t. at-done (done-act (own .step m₀ ev .act) row₀ row (t .1)) (t .0))
+      subst (λ x. Ends w x m row d r Is-done m d r) (sym e) (λ m₀ row₀ ev t. at-done (done-act (own .step m₀ ev .act) row₀ row (t .1)) (t .0))
 
   pub ends-refused : (told : Told) (n : ℕ) (m row : List ℕ) (d : D) (r : R) → told ≡ No n → Ends w told m row d r (Refused n) m d r
   ends-refused told n m row d r e =
-    subst (λ x. Ends w x m row d r (Refused n) m d r) (sym e) (λ m₀ row₀ ev t. at-refused n (refused-act (own .step m₀ ev .act) n row₀ row (t .1)) (t .0))
+      subst (λ x. Ends w x m row d r (Refused n) m d r) (sym e) (λ m₀ row₀ ev t. at-refused n (refused-act (own .step m₀ ev .act) n row₀ row (t .1)) (t .0))
 
   -- one act more: what ends from after it, ends from before it
   module _ (m row m₁ row₁ m′ : List ℕ) (d d₁ d′ : D) (r r₁ r′ : R) (end : Ended) (told₁ : Told) (ends : Ends w told₁ m₁ row₁ d₁ r₁ end m′ d′ r′) where
@@ -143,35 +143,35 @@ module _ {D R : Type 0} (w : Means D R) where
     -- there was nothing to be told
     stays : (told : Told) (m₀ row₀ : List ℕ) (ev : Event) → told ≡ told₁ → m ≡ m₁ → row ≡ row₁ → d₁ ≡ d → r₁ ≡ r → Told-by m₀ row₀ ev told m row → Goes w m₀ d r ev end m′ d′ r′
     stays told m₀ row₀ ev t e f ed er u =
-      subst (λ x. Goes w m₀ x r ev end m′ d′ r′) ed (subst (λ x. Goes w m₀ d₁ x ev end m′ d′ r′) er
+        subst (λ x. Goes w m₀ x r ev end m′ d′ r′) ed (subst (λ x. Goes w m₀ d₁ x ev end m′ d′ r′) er
         (ends m₀ row₀ ev (subst (λ x. Told-by m₀ row₀ ev told₁ m₁ x) f (subst (λ x. Told-by m₀ row₀ ev told₁ x row) e (subst (λ x. Told-by m₀ row₀ ev x m row) t u)))))
 
     by-act : (a : Act) (told : Told) (m₀ row₀ : List ℕ) (ev : Event) → Act-told a told row₀ row → After w told m row d r told₁ m₁ row₁ d₁ r₁ → own .step m₀ ev .act ≡ a
-      → Told-by m₀ row₀ ev told m row → Goes w m₀ d r ev end m′ d′ r′
+        → Told-by m₀ row₀ ev told m row → Goes w m₀ d r ev end m′ d′ r′
     unfolding Act-told
     by-act (read k) told m₀ row₀ ev h aft e t =
-      let p : After w (Read k) m row d r told₁ m₁ row₁ d₁ r₁ = subst (λ x. After w x m row d r told₁ m₁ row₁ d₁ r₁) (h .0) aft in
-      goes-on m₀ ev (page (p .0)) (subst (λ x. Did w x d r (page (p .0)) d₁ r₁) (sym e) (p .0, refl, p .1, p .2, p .3)) (t .0) (p .4)
+        let p : After w (Read k) m row d r told₁ m₁ row₁ d₁ r₁ = subst (λ x. After w x m row d r told₁ m₁ row₁ d₁ r₁) (h .0) aft in
+        goes-on m₀ ev (page (p .0)) (subst (λ x. Did w x d r (page (p .0)) d₁ r₁) (sym e) (p .0, refl, p .1, p .2, p .3)) (t .0) (p .4)
     by-act (write k q) told m₀ row₀ ev h aft e t =
-      let p : After w (Write k) m row d r told₁ m₁ row₁ d₁ r₁ = subst (λ x. After w x m row d r told₁ m₁ row₁ d₁ r₁) (h .0) aft in
-      let same : length q ≡ 512 → take 512 row ≡ q = λ l. ap (take 512) (h .1) ∙ take-at q (drop (length q) row₀) 512 l in
-      goes-on m₀ ev next (subst (λ x. Did w x d r next d₁ r₁) (sym e) (refl, (λ l. subst (λ x. w .took d k x d₁) (same l) (p .0)), p .1)) (t .0) (p .2)
+        let p : After w (Write k) m row d r told₁ m₁ row₁ d₁ r₁ = subst (λ x. After w x m row d r told₁ m₁ row₁ d₁ r₁) (h .0) aft in
+        let same : length q ≡ 512 → take 512 row ≡ q = λ l. ap (take 512) (h .1) ∙ take-at q (drop (length q) row₀) 512 l in
+        goes-on m₀ ev next (subst (λ x. Did w x d r next d₁ r₁) (sym e) (refl, (λ l. subst (λ x. w .took d k x d₁) (same l) (p .0)), p .1)) (t .0) (p .2)
     by-act flush told m₀ row₀ ev h aft e t =
-      let p : After w Flush m row d r told₁ m₁ row₁ d₁ r₁ = subst (λ x. After w x m row d r told₁ m₁ row₁ d₁ r₁) (h .0) aft in
-      goes-on m₀ ev next (subst (λ x. Did w x d r next d₁ r₁) (sym e) (refl, p .0, p .1)) (t .0) (p .2)
+        let p : After w Flush m row d r told₁ m₁ row₁ d₁ r₁ = subst (λ x. After w x m row d r told₁ m₁ row₁ d₁ r₁) (h .0) aft in
+        goes-on m₀ ev next (subst (λ x. Did w x d r next d₁ r₁) (sym e) (refl, p .0, p .1)) (t .0) (p .2)
     by-act (shows s) told m₀ row₀ ev h aft e t =
-      let p : After w (Shows (length s)) m row d r told₁ m₁ row₁ d₁ r₁ = subst (λ x. After w x m row d r told₁ m₁ row₁ d₁ r₁) (h .0) aft in
-      let same : take (length s) row ≡ s = ap (take (length s)) (h .1) ∙ take-at s (drop (length s) row₀) (length s) refl in
-      goes-on m₀ ev next (subst (λ x. Did w x d r next d₁ r₁) (sym e) (refl, p .1, subst (λ x. w .showed r x r₁) same (p .0))) (t .0) (p .2)
+        let p : After w (Shows (length s)) m row d r told₁ m₁ row₁ d₁ r₁ = subst (λ x. After w x m row d r told₁ m₁ row₁ d₁ r₁) (h .0) aft in
+        let same : take (length s) row ≡ s = ap (take (length s)) (h .1) ∙ take-at s (drop (length s) row₀) (length s) refl in
+        goes-on m₀ ev next (subst (λ x. Did w x d r next d₁ r₁) (sym e) (refl, p .1, subst (λ x. w .showed r x r₁) same (p .0))) (t .0) (p .2)
     by-act (send c l) told m₀ row₀ ev h aft e t =
-      let p : After w (Send (4097 * c + length l)) m row d r told₁ m₁ row₁ d₁ r₁ = subst (λ x. After w x m row d r told₁ m₁ row₁ d₁ r₁) (h .0) aft in
-      goes-on m₀ ev lost (subst (λ x. Did w x d r lost d₁ r₁) (sym e) (refl, p .0, p .1)) (t .0) (p .2)
+        let p : After w (Send (4097 * c + length l)) m row d r told₁ m₁ row₁ d₁ r₁ = subst (λ x. After w x m row d r told₁ m₁ row₁ d₁ r₁) (h .0) aft in
+        goes-on m₀ ev lost (subst (λ x. Did w x d r lost d₁ r₁) (sym e) (refl, p .0, p .1)) (t .0) (p .2)
     by-act done told m₀ row₀ ev h aft e t =
-      let p : After w Done m row d r told₁ m₁ row₁ d₁ r₁ = subst (λ x. After w x m row d r told₁ m₁ row₁ d₁ r₁) (h .0) aft in
-      stays told m₀ row₀ ev (h .0 ∙ sym (p .0)) (sym (p .1)) (sym (p .2)) (p .3) (p .4) t
+        let p : After w Done m row d r told₁ m₁ row₁ d₁ r₁ = subst (λ x. After w x m row d r told₁ m₁ row₁ d₁ r₁) (h .0) aft in
+        stays told m₀ row₀ ev (h .0 ∙ sym (p .0)) (sym (p .1)) (sym (p .2)) (p .3) (p .4) t
     by-act (refused k) told m₀ row₀ ev h aft e t =
-      let p : After w (No k) m row d r told₁ m₁ row₁ d₁ r₁ = subst (λ x. After w x m row d r told₁ m₁ row₁ d₁ r₁) (h .0) aft in
-      stays told m₀ row₀ ev (h .0 ∙ sym (p .0)) (sym (p .1)) (sym (p .2)) (p .3) (p .4) t
+        let p : After w (No k) m row d r told₁ m₁ row₁ d₁ r₁ = subst (λ x. After w x m row d r told₁ m₁ row₁ d₁ r₁) (h .0) aft in
+        stays told m₀ row₀ ev (h .0 ∙ sym (p .0)) (sym (p .1)) (sym (p .2)) (p .3) (p .4) t
 
     pub earlier : (told : Told) → After w told m row d r told₁ m₁ row₁ d₁ r₁ → Ends w told m row d r end m′ d′ r′
     earlier told aft m₀ row₀ ev t = by-act (own .step m₀ ev .act) told m₀ row₀ ev (t .1) aft refl t

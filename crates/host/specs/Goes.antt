@@ -14,9 +14,9 @@ use Rattle.host.specs.declared.machine.Ended.the-variants.{Done as Is-done, Re
 
 -- what a disk and a place for rows mean by their work
 pub record Means (D R : Type 0) : Type 1 where
-  pub gave : D → ℕ → List ℕ → D → Type 0      -- read: a page of it holds these bytes
-  pub took : D → ℕ → List ℕ → D → Type 0      -- wrote: a page of it is to hold these bytes
-  pub kept : D → D → Type 0                   -- flushed
+  pub gave : D → ℕ → List ℕ → D → Type 0  -- read: a page of it holds these bytes
+  pub took : D → ℕ → List ℕ → D → Type 0  -- wrote: a page of it is to hold these bytes
+  pub kept : D → D → Type 0  -- flushed
   pub showed : R → List ℕ → R → Type 0
 
 abbrev pub means : {D R : Type 0} → (D → ℕ → List ℕ → D → Type 0) → (D → ℕ → List ℕ → D → Type 0) → (D → D → Type 0) → (R → List ℕ → R → Type 0) → Means D R
@@ -37,7 +37,11 @@ pub data Goes {D R : Type 0} (w : Means D R) : List ℕ → D → R → Event �
   at-done : {m m′ : List ℕ} {d : D} {r : R} {ev : Event} → own .step m ev .act ≡ done → m′ ≡ own .step m ev .memory → Goes w m d r ev Is-done m′ d r
   at-refused : {m m′ : List ℕ} {d : D} {r : R} {ev : Event} (k : ℕ) → own .step m ev .act ≡ refused k → m′ ≡ own .step m ev .memory → Goes w m d r ev (Refused k) m′ d r
   on-from : {m m′ : List ℕ} {d d′ : D} {r r′ : R} {ev : Event} {end : Ended} (d₁ : D) (r₁ : R) (ev₁ : Event)
-    → Did w (own .step m ev .act) d r ev₁ d₁ r₁ → Goes w (own .step m ev .memory) d₁ r₁ ev₁ end m′ d′ r′ → Goes w m d r ev end m′ d′ r′
+      → Did w (own .step m ev .act) d r ev₁ d₁ r₁ → Goes w (own .step m ev .memory) d₁ r₁ ev₁ end m′ d′ r′ → Goes w m d r ev end m′ d′ r′
+
+-- the event of a page that was read
+abbrev pub page-read : List ℕ → Event
+page-read p = page p
 
 -- an event at this memory is answered by this act, and leaves this memory and this row
 abbrev pub Told-by : List ℕ → List ℕ → Event → Told → List ℕ → List ℕ → Type 0

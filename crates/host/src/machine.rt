@@ -5,10 +5,10 @@ ghost use Prim.Native.Nat.{ℕ, _≤_, _<_};
 ghost use lib.ListN.{length};
 ghost use Rattle.std.specs.Of.Vec.{vec-items, vec-len};
 ghost use Rattle.std.specs.Vec.{made};
-ghost use Rattle.model.specs.Run.{Engine, on, said, page};
+ghost use Rattle.model.specs.Run.{Engine, on, said};
 ghost use Rattle.house.specs.Machine.{own};
 ghost use Rattle.house.specs.Entry.{event-of};
-ghost use Rattle.host.specs.Goes.{means, Goes, Told-by, After, Ends};
+ghost use Rattle.host.specs.Goes.{means, page-read, Goes, Told-by, After, Ends};
 use super::Disk;
 use super::PAGE_LEN;
 use house::MEMORY_LEN;
@@ -64,7 +64,10 @@ pub impl fmt::Display for Fault as FaultDisplay {
     fn fmt<W: fmt::Write>(&self, f: &mut fmt::Formatter<W>) -> fmt::Result {
         match self {
             Fault::Io(e) => write!(f, "{e}"),
-            Fault::NoSuchPage(page) => write!(f, "the house asked for page {page}, which is not there"),
+            Fault::NoSuchPage(page) => write!(
+                f,
+                "the house asked for page {page}, which is not there"
+            ),
             Fault::LongRow(len) => write!(f, "the house showed a row of {len} bytes"),
             Fault::Endless => write!(f, "the command did not end"),
         }
@@ -107,18 +110,33 @@ impl Machine {
         requires { ⌜ kind ≤ 5 ⌝ }
         ensures { λ r. ⌜ Told-by (vec-items (now (self .entry) .memory)) (vec-items (now (self .entry) .row)) (event-of kind (now (bytes .entry))) r (vec-items (now (self .exit) .memory)) (vec-items (now (self .exit) .row)) ⌝ }
     {
-        step(self.memory.as_mut_slice(), kind, bytes, self.row.as_mut_slice())
+        step(
+            self.memory.as_mut_slice(),
+            kind,
+            bytes,
+            self.row.as_mut_slice(),
+        )
     }
 
     // Tells it of the page that was read last.
     fn tell_page(&mut self) -> Told
-        ensures { λ r. ⌜ Told-by (vec-items (now (self .entry) .memory)) (vec-items (now (self .entry) .row)) (page (vec-items (now (self .entry) .page))) r (vec-items (now (self .exit) .memory)) (vec-items (now (self .exit) .row)) ⌝ }
+        ensures { λ r. ⌜ Told-by (vec-items (now (self .entry) .memory)) (vec-items (now (self .entry) .row)) (page-read (vec-items (now (self .entry) .page))) r (vec-items (now (self .exit) .memory)) (vec-items (now (self .exit) .row)) ⌝ }
     {
-        step(self.memory.as_mut_slice(), kind::PAGE, self.page.as_slice(), self.row.as_mut_slice())
+        step(
+            self.memory.as_mut_slice(),
+            kind::PAGE,
+            self.page.as_slice(),
+            self.row.as_mut_slice(),
+        )
     }
 
     // Does one act, and tells the house what came of it.
-    fn act<D: Disk, R: Rows>(&mut self, told: Told, disk: &mut D, rows: &mut R) -> Result<Told, Fault>
+    fn act<D: Disk, R: Rows>(
+        &mut self,
+        told: Told,
+        disk: &mut D,
+        rows: &mut R,
+    ) -> Result<Told, Fault>
         ensures after { λ r. ⌜ made r (λ t. After (means (D·Disk .gave) (D·Disk .took) (D·Disk .kept) (R·Rows .showed)) told (vec-items (now (self .entry) .memory)) (vec-items (now (self .entry) .row)) (now (disk .entry)) (now (rows .entry)) t (vec-items (now (self .exit) .memory)) (vec-items (now (self .exit) .row)) (now (disk .exit)) (now (rows .exit))) ⌝ }
         ensures size { λ _. ⌜ D·Disk .size (now (disk .exit)) ≡ D·Disk .size (now (disk .entry)) ⌝ }
     {
@@ -154,7 +172,12 @@ impl Machine {
     }
 
     // Goes on from an act to the end of the command.
-    fn finish<D: Disk, R: Rows>(&mut self, first: Told, disk: &mut D, rows: &mut R) -> Result<Ended, Fault>
+    fn finish<D: Disk, R: Rows>(
+        &mut self,
+        first: Told,
+        disk: &mut D,
+        rows: &mut R,
+    ) -> Result<Ended, Fault>
         ensures ends { λ r. ⌜ made r (λ e. Ends (means (D·Disk .gave) (D·Disk .took) (D·Disk .kept) (R·Rows .showed)) first (vec-items (now (self .entry) .memory)) (vec-items (now (self .entry) .row)) (now (disk .entry)) (now (rows .entry)) e (vec-items (now (self .exit) .memory)) (now (disk .exit)) (now (rows .exit))) ⌝ }
         ensures size { λ _. ⌜ D·Disk .size (now (disk .exit)) ≡ D·Disk .size (now (disk .entry)) ⌝ }
     {
@@ -170,7 +193,13 @@ impl Machine {
     }
 
     // Power comes to a house that has none: its number, and how many houses there are.
-    pub fn power<D: Disk, R: Rows>(&mut self, house: u64, houses: u64, disk: &mut D, rows: &mut R) -> Result<Ended, Fault>
+    pub fn power<D: Disk, R: Rows>(
+        &mut self,
+        house: u64,
+        houses: u64,
+        disk: &mut D,
+        rows: &mut R,
+    ) -> Result<Ended, Fault>
         ensures goes { λ r. ⌜ made r (λ e. Goes (means (D·Disk .gave) (D·Disk .took) (D·Disk .kept) (R·Rows .showed)) (own .start) (now (disk .entry)) (now (rows .entry)) (on house houses (D·Disk .size (now (disk .entry)))) e (vec-items (now (self .exit) .memory)) (now (disk .exit)) (now (rows .exit))) ⌝ }
         ensures size { λ _. ⌜ D·Disk .size (now (disk .exit)) ≡ D·Disk .size (now (disk .entry)) ⌝ }
     {
@@ -180,7 +209,12 @@ impl Machine {
     }
 
     // Says a command to the house, and does what it asks for until the command ends.
-    pub fn command<D: Disk, R: Rows>(&mut self, text: &[u8], disk: &mut D, rows: &mut R) -> Result<Ended, Fault>
+    pub fn command<D: Disk, R: Rows>(
+        &mut self,
+        text: &[u8],
+        disk: &mut D,
+        rows: &mut R,
+    ) -> Result<Ended, Fault>
         ensures goes { λ r. ⌜ made r (λ e. Goes (means (D·Disk .gave) (D·Disk .took) (D·Disk .kept) (R·Rows .showed)) (vec-items (now (self .entry) .memory)) (now (disk .entry)) (now (rows .entry)) (said (now (text .entry))) e (vec-items (now (self .exit) .memory)) (now (disk .exit)) (now (rows .exit))) ⌝ }
         ensures size { λ _. ⌜ D·Disk .size (now (disk .exit)) ≡ D·Disk .size (now (disk .entry)) ⌝ }
     {

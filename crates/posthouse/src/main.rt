@@ -5,14 +5,14 @@ mod session;
 
 use host::Disk;
 use host::FaultDisplay;
-use host::IoOpenError;
 use host::Machine;
-use host::OpenError;
-use host::OpenErrorDisplay;
-use host::PageFile;
-use host::PageFileDisk;
 use options::Options;
 use options::Wish;
+use pagefile::IoOpenError;
+use pagefile::OpenError;
+use pagefile::OpenErrorDisplay;
+use pagefile::PageFile;
+use pagefile::PageFileDisk;
 use session::Session;
 use std::env;
 use std::error::AnyError;
@@ -56,7 +56,10 @@ fn sit(rt: &LibcRuntime, options: &Options, file: PageFile) -> Result<(), AnyErr
     match session.run(options.house, options.houses) {
         Ok(()) => Ok(()),
         Err(fault) => {
-            eprintln!(rt, "posthouse: the house stopped: {fault}; what was answered with 'done' is kept, so start it again")?;
+            eprintln!(
+                rt,
+                "posthouse: the house stopped: {fault}; what was answered with 'done' is kept, so start it again"
+            )?;
             Err("the house stopped".into())
         }
     }
@@ -66,9 +69,14 @@ fn keep_house(rt: &LibcRuntime, options: &Options) -> Result<(), AnyError> {
     let path = options.path.as_str();
     match open(rt, options) {
         Ok(file) => {
-            if let Some(pages) = options.pages && pages != file.pages() {
+            if let Some(pages) = options.pages
+                && pages != file.pages()
+            {
                 let has = file.pages();
-                eprintln!(rt, "posthouse: '{path}' has {has} pages, not {pages}: leave the number out, or name another file")?;
+                eprintln!(
+                    rt,
+                    "posthouse: '{path}' has {has} pages, not {pages}: leave the number out, or name another file"
+                )?;
                 return Err("another number of pages".into());
             }
             sit(rt, options, file)

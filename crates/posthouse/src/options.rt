@@ -36,9 +36,13 @@ impl Options {
 }
 
 const FEW_WORDS: &str = "FILE, HOUSE and HOUSES are needed; --help says more";
+
 const BAD_HOUSES: &str = "HOUSES is a number from 1 to 16";
+
 const BAD_HOUSE: &str = "HOUSE is a number from 0 to one less than HOUSES";
+
 const BAD_PAGES: &str = "PAGES is a number from 256 to 1048576";
+
 const MANY_WORDS: &str = "there is a word too many; --help says more";
 
 fn number(word: Option<String>) -> Option<u64> {
@@ -76,7 +80,7 @@ fn pages(word: Option<String>) -> Result<Option<u64>, &'static str>
         None => Ok(None),
         Some(text) => match text.as_str().parse::<u64>() {
             Ok(n) => {
-                if n < host::FIRST_PAGES || n > host::MOST_PAGES {
+                if n < pagefile::FIRST_PAGES || n > pagefile::MOST_PAGES {
                     return Err(BAD_PAGES);
                 }
                 Ok(Some(n))
@@ -108,7 +112,12 @@ pub fn read(args: Args) -> Wish
         return Wish::Bad(MANY_WORDS);
     }
     match (houses(house, count), asked) {
-        (Ok((house, houses)), Ok(pages)) => Wish::House(Options { path, house, houses, pages }),
+        (Ok((house, houses)), Ok(pages)) => Wish::House(Options {
+            path,
+            house,
+            houses,
+            pages,
+        }),
         (Err(message), _) => Wish::Bad(message),
         (_, Err(message)) => Wish::Bad(message),
     }

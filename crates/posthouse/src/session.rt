@@ -1,14 +1,14 @@
 // One sitting of a house: power, and then a command for each line of standard input.
+use hex::from_hex;
+use hex::to_hex;
 use host::AllocFault;
 use host::Ended;
 use host::Fault;
 use host::IoFault;
 use host::Machine;
-use host::PageFile;
-use host::PageFileDisk;
 use host::Rows;
-use host::from_hex;
-use host::to_hex;
+use pagefile::PageFile;
+use pagefile::PageFileDisk;
 use std::io;
 use std::io::BufRead;
 use std::io::BufReader;
@@ -51,7 +51,10 @@ impl Session<'_> {
         match from_hex(self.rt.alloc(), digits)? {
             Some(text) => self.say(text.as_slice()),
             None => {
-                eprintln!(self.rt, "posthouse: line {number} is not hexadecimal (two digits for each byte); it is passed over")?;
+                eprintln!(
+                    self.rt,
+                    "posthouse: line {number} is not hexadecimal (two digits for each byte); it is passed over"
+                )?;
                 Ok(())
             }
         }
@@ -60,7 +63,8 @@ impl Session<'_> {
     // Power, and then every line until there is no more.
     pub fn run(&mut self, house: u64, houses: u64) -> Result<(), Fault> {
         let mut rows = Printed { rt: self.rt };
-        self.machine.power(house, houses, &mut self.file, &mut rows)?;
+        self.machine
+            .power(house, houses, &mut self.file, &mut rows)?;
         let heap = self.rt.alloc();
         let mut number: u64 = 0;
         for line in BufReader::new(self.rt.stdin()).split(heap, b'\n') {

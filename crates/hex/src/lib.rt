@@ -1,7 +1,7 @@
-// Bytes as hexadecimal digits, two for each.
+// Bytes as hexadecimal digits, two for each, and back. It promises just the bytes and the digits of the definition, and knows nothing of houses.
 ghost use mathlib.Core.Path.{_≡_};
 ghost use Prim.Native.Nat.{_<_};
-ghost use Rattle.host.specs.Hex.{digit, digit-value, pair-value, unhexed, hexed};
+ghost use Rattle.hex.specs.Hex.{digit, digit-value, pair-value, unhexed, hexed};
 ghost use Rattle.std.specs.Of.String.{string-bytes};
 ghost use Rattle.std.specs.Of.Vec.{vec-items};
 ghost use Rattle.std.specs.Options.{mapped};
@@ -47,7 +47,11 @@ pub fn from_hex(heap: Global, text: &[u8]) -> Result<Option<Vec<u8>>, AllocError
         bytes.push(byte)?;
         rest = &rest[2..rest.len()];
     }
-    if rest.is_empty() { Ok(Some(bytes)) } else { Ok(None) }
+    if rest.is_empty() {
+        Ok(Some(bytes))
+    } else {
+        Ok(None)
+    }
 }
 
 fn digit_of(n: u8) -> char

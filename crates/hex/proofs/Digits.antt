@@ -7,7 +7,7 @@ use Rattle.std.proofs.shelf.Lists.{take-rest, nil-from-length, append-nil}
 use native.Mathlib.Omega.{arith}
 use Rattle.std.specs.declared.option.Option.{Option}
 use Rattle.std.specs.declared.option.Option.the-variants.{Some, None}
-use Rattle.host.specs.Hex.{digit, before, with-byte, pair-value, hexed, unhexed}
+use Rattle.hex.specs.Hex.{digit, before, with-byte, pair-value, hexed, unhexed}
 
 pub before-nil : (o : Option (List ℕ)) → before [] o ≡ o
 before-nil None = refl
@@ -40,9 +40,9 @@ module _ (text bs rest : List ℕ) (so-far : unhexed text ≡ before bs (unhexed
   turn-none l e = sym (so-far ∙ ap (before bs) (unhexed-pair rest l ∙ ap (λ o. with-byte o (unhexed (drop 2 rest))) (sym e)))
 
   pub turn-some : (b : ℕ) (bs₁ : List ℕ) → 2 ≤ length rest → Some b ≡ pair-value (getD rest 0 0) (getD rest 1 0) → bs₁ ≡ bs ++ b ∷ []
-    → unhexed text ≡ before bs₁ (unhexed (take (length rest - 2) (drop 2 rest)))
+      → unhexed text ≡ before bs₁ (unhexed (take (length rest - 2) (drop 2 rest)))
   turn-some b bs₁ l e p =
-    so-far ∙ ap (before bs) (unhexed-pair rest l ∙ ap (λ o. with-byte o (unhexed (drop 2 rest))) (sym e)) ∙ before-push bs b (unhexed (drop 2 rest))
+      so-far ∙ ap (before bs) (unhexed-pair rest l ∙ ap (λ o. with-byte o (unhexed (drop 2 rest))) (sym e)) ∙ before-push bs b (unhexed (drop 2 rest))
       ∙ ap (λ xs. before xs (unhexed (drop 2 rest))) (sym p) ∙ ap (λ r. before bs₁ (unhexed r)) (sym (take-rest rest 2))
 
   pub turn-end : length rest ≡ 0 → Some bs ≡ unhexed text

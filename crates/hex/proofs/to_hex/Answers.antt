@@ -3,9 +3,9 @@ use native.Mathlib.Omega.{arith}
 use Rattle.std.proofs.shelf.Lists.{take-all, take-more}
 use Prim.Native.Nat.{_<_, _/_, _%_}
 use lib.ListN.{take, getD}
-use Rattle.host.specs.Hex.{hexed, digit}
-use Rattle.host.proofs.Digits.{hexed-push}
-use Rattle.host.proofs.hex.to_hex.Needs as need
+use Rattle.hex.specs.Hex.{hexed, digit}
+use Rattle.hex.proofs.Digits.{hexed-push}
+use Rattle.hex.proofs.to_hex.Needs as need
 
 pub loop-b-holds : need.loop-b-holds
 unfolding hexed

@@ -3,8 +3,8 @@ use Prim.Native.Nat.{_≤_}
 use lib.ListN.{length}
 use native.Mathlib.Omega.{arith}
 use borrow.Author.Tests.{true-eqb, false-eqb}
-use Rattle.host.proofs.Digits.{turn-none, turn-some, turn-end, turn-odd}
-use Rattle.host.proofs.hex.from_hex.Needs as need
+use Rattle.hex.proofs.Digits.{turn-none, turn-some, turn-end, turn-odd}
+use Rattle.hex.proofs.from_hex.Needs as need
 
 pub returns-in-rest : need.returns-in-rest
 returns-in-rest c = turn-none _ _ _ (c .loop-rest .inv) (omega arith) (c .in-rest .ensures tt)

@@ -1,8 +1,8 @@
 use mathlib.Core.Path.{_≡_}
 use lib.ListN.{length}
 use Rattle.std.specs.Of.Vec.{vec-items}
-use Rattle.host.specs.Hex.{unhexed, before}
-use Rattle.host.proofs.hex.from_hex.Given as given
+use Rattle.hex.specs.Hex.{unhexed, before}
+use Rattle.hex.proofs.from_hex.Given as given
 
 abbrev pub Inv-loop-rest : given.InvT-loop-rest
 Inv-loop-rest l = unhexed (l .text) ≡ before (vec-items (l .bytes)) (unhexed (l .rest))

@@ -1,10 +1,10 @@
 -- Join, new box and boxes: which way the definition goes, from the tests of the code, and what a new person or box leaves as it was.
-use mathlib.Core.Path.{_≡_, refl, sym, _∙_, ap}
-use mathlib.Core.Bool.{Bool, true, false, _&&_, not}
+use mathlib.Core.Path.{_≡_, sym, _∙_, ap}
+use mathlib.Core.Bool.{true, false}
 use mathlib.Core.List.{List, [], _∷_}
 use Prim.Native.Nat.{ℕ, _+_, _*_, _-_, _/_, _≤_, _<_}
 use lib.Dec.{ltb, leb}
-use lib.ListN.{length, getD}
+use lib.ListN.{length}
 use native.Mathlib.Omega.{arith}
 use Rattle.std.proofs.shelf.Tests.{lt-ltb, le-ltb, le-leb, lt-leb, and-from}
 use Rattle.std.specs.declared.option.Option.{Option}
@@ -23,7 +23,7 @@ use Rattle.mailboxes.proofs.Places.{first-some}
 use Rattle.mailboxes.proofs.Records.{box-row-short}
 use Rattle.mailboxes.proofs.Changes.{length-with-person, length-with-box}
 use Rattle.house.specs.declared.phase.Phase.the-variants.{Idle, ShowBoxes}
-use Rattle.house.specs.Memory.{area-of, people-of, boxes-count, counting-of, coming-of, directory-of}
+use Rattle.house.specs.Memory.{area-of, people-of, boxes-count, directory-of}
 use Rattle.house.specs.Machine.{refuse, go, touch-record, commit, no-room, person-added, joins, box-added, makes-box, shows-boxes}
 use Rattle.house.specs.Does.{Lends}
 use Rattle.house.proofs.Touches.{selector-words-most}

@@ -4,20 +4,20 @@ use mathlib.Core.Bool.{Bool, true, false, _&&_, false≢true}
 use mathlib.Core.List.{List, [], _∷_}
 use mathlib.Core.Logic.{_⊎_, inl, inr}
 use Prim.Native.Nat.{ℕ, _+_, _*_, _-_, _≤_, _<_}
-use lib.Dec.{eqb, ltb, leb}
+use lib.Dec.{ltb, leb}
 use lib.ListN.{length, getD, take, drop}
 use native.Mathlib.Omega.{arith}
 use borrow.Rule.Slice.PartMut.{putMid}
 use Rattle.std.proofs.shelf.Tests.{eq-eqb, ne-eqb, lt-ltb, le-ltb, le-leb, lt-leb}
 use Rattle.model.specs.Mail.{pick}
-use Rattle.model.specs.Run.{Step, read, done}
+use Rattle.model.specs.Run.{read, done}
 use Rattle.pages.specs.Words.{words-in, part, patched}
 use Rattle.pages.specs.Geometry.{selector-pages, directory-pages, selector-place, table-place}
-use Rattle.pages.proofs.Words.{length-part, part-patched-after, part-patched-before, length-words-in}
+use Rattle.pages.proofs.Words.{length-part, part-patched-after, part-patched-before}
 use Rattle.mailboxes.specs.Directory.{first-directory}
 use Rattle.mailboxes.proofs.Changes.{length-first-directory}
 use Rattle.house.specs.declared.phase.Phase.the-variants.{ReadSelectors, ReadDirectory, Idle}
-use Rattle.house.specs.Memory.{memory-len, area-of, coming-of}
+use Rattle.house.specs.Memory.{memory-len, area-of}
 use Rattle.house.specs.Machine.{refuse, go, powered-up, first-house-made, header-read, selectors-read, directory-read, with-selectors}
 use Rattle.house.specs.Does.{directory-asked}
 use Rattle.house.proofs.Touches.{selector-words-most}

@@ -1,15 +1,15 @@
 -- What the code reads and writes piece by piece, as the parts and patches of the definition.
 use mathlib.Core.Path.{_≡_, refl, sym, _∙_, ap}
-use mathlib.Core.Bool.{Bool, true, false, _&&_}
+use mathlib.Core.Bool.{Bool, true}
 use mathlib.Core.List.{List, [], _∷_, _++_, append-assoc}
 use Prim.Native.Nat.{ℕ, zero, suc, _+_, _*_, _-_, _≤_, _<_}
 use lib.Dec.{leb}
-use lib.ListN.{length, getD, set, take, drop, replicate, length-append, length-take, length-drop, take-append-drop}
+use lib.ListN.{length, getD, set, take, drop, replicate, length-append, take-append-drop}
 use lib.Seq.{take-at, drop-at, drop-drop, length-take-le}
 use native.Mathlib.Omega.{arith}
 use borrow.Rule.Slice.PartMut.{putMid}
 use borrow.Author.Tests.{le-leb}
-use Rattle.model.specs.Mail.{pick, eight}
+use Rattle.model.specs.Mail.{pick}
 use Rattle.model.specs.Device.{zeros}
 use Rattle.pages.specs.Words.{part, patched, bytes-of, words-in}
 use Rattle.pages.proofs.Words.{length-part, length-bytes-of, length-zeros, patched-is-putMid, length-words-in, getD-part, getD-patched-after}

@@ -1,6 +1,6 @@
 -- The command that was read is the one that the text spells.
-use mathlib.Core.Path.{_≡_, refl, sym, _∙_, ap}
-use Rattle.std.specs.declared.option.Option.the-variants.{Some, None}
+use mathlib.Core.Path.{refl, sym, _∙_, ap}
+use Rattle.std.specs.declared.option.Option.the-variants.{Some}
 use Rattle.model.specs.House.{join, boxes, new-box}
 use Rattle.commands.specs.Meaning.{meaning}
 use Rattle.commands.specs.Reader.{command-of}

@@ -1,4 +1,5 @@
-use mathlib.Core.Path.{_≡_, refl, sym, _∙_, ap, subst}
+-- At rest the command is obeyed; otherwise it is out of turn.
+use mathlib.Core.Path.{sym, _∙_, subst}
 use Rattle.model.specs.Run.{said}
 use Rattle.house.specs.declared.phase.Phase.the-variants.{Idle}
 use Rattle.house.specs.declared.Told.the-variants.{No}

@@ -1,4 +1,5 @@
-use mathlib.Core.Path.{_≡_, refl, sym, _∙_, ap}
+-- The phase says what comes next; otherwise it is out of turn.
+use mathlib.Core.Path.{sym, _∙_}
 use Rattle.house.specs.declared.phase.Phase.the-variants.{ShowBoxes, WriteTable, WriteSelectors, WriteHeader, FlushHeader, Committed, Shown}
 use Rattle.house.specs.Machine.{next-told}
 use Rattle.house.proofs.Acts.{does-as, out-does, told-flush, told-done}

@@ -1,4 +1,5 @@
-use mathlib.Core.Path.{_≡_, refl, sym, _∙_, ap}
+-- The phase says which page it is; otherwise it is out of turn.
+use mathlib.Core.Path.{sym, _∙_}
 use native.Mathlib.Omega.{arith}
 use Rattle.house.specs.declared.phase.Phase.the-variants.{ReadHeader, ReadSelectors, ReadDirectory}
 use Rattle.house.specs.Machine.{page-told}

@@ -1,11 +1,7 @@
-use mathlib.Core.Path.{_≡_, refl, sym, _∙_, ap}
-use Prim.Native.Nat.{ℕ, _+_, _*_, _<_}
-use native.Mathlib.Omega.{arith}
-use Rattle.std.specs.declared.option.Option.{Option}
+-- The page that is found is the first that was touched.
+use mathlib.Core.Path.{refl, sym}
 use Rattle.std.specs.declared.option.Option.the-variants.{Some, None}
-use Rattle.pages.specs.Geometry.{selector-pages, directory-pages}
-use Rattle.pages.specs.Touched.{first-touched}
-use Rattle.house.specs.Memory.{counting-of, coming-of}
+use Rattle.pages.specs.Geometry.{directory-pages}
 use Rattle.house.specs.Machine.{commit}
 use Rattle.house.proofs.Touches.{next-is, next-below}
 use Rattle.house.proofs.commit.commit.Needs as need

@@ -1,7 +1,8 @@
-use mathlib.Core.Path.{_≡_, refl, sym, _∙_, ap}
+-- A number is shown, or nothing.
+use mathlib.Core.Path.{refl, sym, _∙_, ap}
 use mathlib.Core.List.{_++_}
 use Prim.Native.Nat.{_-_}
-use lib.ListN.{length, drop}
+use lib.ListN.{drop}
 use borrow.Author.Tests.{eq-eqb, ne-eqb}
 use Rattle.model.specs.Mail.{eight, in-bytes}
 use Rattle.pages.proofs.Words.{eight-is}

@@ -1,4 +1,5 @@
-use mathlib.Core.Path.{_≡_, refl, _∙_, ap}
+-- The page goes into the other area, which is there.
+use mathlib.Core.Path.{refl}
 use mathlib.Core.Bool.{_&&_}
 use Prim.Native.Nat.{_+_, _*_, _-_, _<_}
 use lib.Dec.{ltb}

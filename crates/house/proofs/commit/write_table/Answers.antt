@@ -1,11 +1,11 @@
-use mathlib.Core.Path.{_≡_, refl, _∙_, ap}
+-- The page goes to the twin that the bits to come point at, which is there, since the directory lies in the table.
+use mathlib.Core.Path.{refl, _∙_, ap}
 use Prim.Native.Nat.{_+_, _*_, _<_}
 use lib.Dec.{ltb}
-use lib.ListN.{length, take, drop}
 use native.Mathlib.Omega.{arith}
 use borrow.Author.Tests.{lt-ltb}
 use Rattle.pages.specs.Words.{part, bytes-of}
-use Rattle.pages.specs.Geometry.{table-pages, directory-pages, selector-pages, table-place}
+use Rattle.pages.specs.Geometry.{table-pages, selector-pages, table-place}
 use Rattle.pages.proofs.Geometry.{directory-pages-most}
 use Rattle.house.proofs.Acts.{some-place, no-place, told-write}
 use Rattle.house.proofs.Writes.{lent-part, stored}

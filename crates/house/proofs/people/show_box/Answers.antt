@@ -1,12 +1,12 @@
-use mathlib.Core.Path.{_≡_, refl, sym, _∙_, ap}
-use mathlib.Core.Bool.{Bool}
+-- The next box is found as the definition finds it, and its row fits.
+use mathlib.Core.Path.{_≡_, _∙_, ap}
 use mathlib.Core.List.{List, _++_}
 use Prim.Native.Nat.{ℕ, _+_}
 use lib.ListN.{length, drop}
 use Rattle.std.specs.declared.option.Option.the-variants.{Some, None}
 use Rattle.model.specs.House.{box-row}
 use Rattle.mailboxes.specs.Directory.{box-of}
-use Rattle.mailboxes.specs.Row.{row-fits, row-over}
+use Rattle.mailboxes.specs.Row.{row-over}
 use Rattle.house.specs.Memory.{directory-of}
 use Rattle.house.proofs.Acts.{does-as, some-place, no-place, told-done, told-shows}
 use Rattle.house.proofs.Joins.{box-next, next-fits, shows-none, shows-some}

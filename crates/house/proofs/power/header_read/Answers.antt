@@ -1,14 +1,11 @@
-use mathlib.Core.Path.{_≡_, refl, sym, _∙_, ap}
-use mathlib.Core.Bool.{Bool, true, false, _&&_}
-use mathlib.Core.List.{List}
-use mathlib.Core.Logic.{inl, inr}
-use Prim.Native.Nat.{ℕ, _≤_}
-use lib.Dec.{ltb, leb}
-use lib.ListN.{length, getD}
-use native.Mathlib.Omega.{arith}
+-- The words of the header say which way the definition goes.
+use mathlib.Core.Path.{_≡_, sym, _∙_, ap}
+use mathlib.Core.Bool.{_&&_}
+use lib.Dec.{ltb}
+use lib.ListN.{getD}
 use borrow.Rule.Slice.PartMut.{putMid}
-use Rattle.std.proofs.shelf.Tests.{le-leb, lt-ltb, and-parts}
-use Rattle.pages.specs.Words.{words-in, patched}
+use Rattle.std.proofs.shelf.Tests.{lt-ltb, and-parts}
+use Rattle.pages.specs.Words.{words-in}
 use Rattle.pages.specs.Geometry.{selector-pages, selector-place}
 use Rattle.pages.proofs.Words.{length-words-in}
 use Rattle.pages.proofs.Geometry.{selector-pages-some}

@@ -1,4 +1,5 @@
-use mathlib.Core.Path.{_≡_, refl, _∙_, ap}
+-- The twin that counts is there, since the directory lies in the table.
+use mathlib.Core.Path.{_∙_, ap}
 use Prim.Native.Nat.{_*_, _<_}
 use lib.Dec.{ltb}
 use native.Mathlib.Omega.{arith}

@@ -111,7 +111,7 @@ touch-area P at m long = getD-patched-before m 1184 _ 65 0 (omega arith) (omega 
 touched-length : (m : List ℕ) (n t u : ℕ) → n ≤ 1088 → length m ≡ 262144 → length (patched m 1184 (touched (part m 96 n) (touched (part m 96 n) (part m 1184 n) t) u)) ≡ 262144
 touched-length m n t u h long =
     let size : length (touched (part m 96 n) (touched (part m 96 n) (part m 1184 n) t) u) ≡ n =
-        length-touched (part m 96 n) (touched (part m 96 n) (part m 1184 n) t) u ∙ length-touched (part m 96 n) (part m 1184 n) t ∙ length-part m 1184 n (omega arith) in
+    length-touched (part m 96 n) (touched (part m 96 n) (part m 1184 n) t) u ∙ length-touched (part m 96 n) (part m 1184 n) t ∙ length-part m 1184 n (omega arith) in
     length-patched m 1184 (touched (part m 96 n) (touched (part m 96 n) (part m 1184 n) t) u) (omega arith) ∙ long
 
 touch-length : (P at : ℕ) (m : List ℕ) → P ≤ 1048576 → length m ≡ 262144 → length (touch-record P at m) ≡ 262144
@@ -139,7 +139,7 @@ module _ (P : ℕ) (nm m : List ℕ) (d : ℕ) (size : P ≤ 1048576) (long : le
   person-area few =
       let new = with-person (people-of m) (boxes-count m) (directory-of P m) nm in
       let l₁ : length (patched m 2272 new) ≡ 262144 =
-          directory-length m new d long most (length-with-person (people-of m) (boxes-count m) (directory-of P m) nm few (omega (arith, words-long)) ∙ words-long) in
+      directory-length m new d long most (length-with-person (people-of m) (boxes-count m) (directory-of P m) nm few (omega (arith, words-long)) ∙ words-long) in
       let l₂ = touch-length P (person-place (people-of m)) (patched m 2272 new) size l₁ in
       let l₃ = touch-length P (box-place (boxes-count m)) (touch-record P (person-place (people-of m)) (patched m 2272 new)) size l₂ in
       registers-area (touch-record P (box-place (boxes-count m)) (touch-record P (person-place (people-of m)) (patched m 2272 new))) ((people-of m + 1) ∷ (boxes-count m + 1) ∷ []) 66 _ _ l₃ (omega arith) (omega arith)
@@ -152,7 +152,7 @@ module _ (P : ℕ) (nm m : List ℕ) (d : ℕ) (size : P ≤ 1048576) (long : le
   box-area a =
       let new = with-box (boxes-count m) (directory-of P m) a nm in
       let l₁ : length (patched m 2272 new) ≡ 262144 =
-          directory-length m new d long most (length-with-box (boxes-count m) (directory-of P m) a nm (omega (arith, words-long)) ∙ words-long) in
+      directory-length m new d long most (length-with-box (boxes-count m) (directory-of P m) a nm (omega (arith, words-long)) ∙ words-long) in
       let l₂ = touch-length P (box-place (boxes-count m)) (patched m 2272 new) size l₁ in
       registers-area (touch-record P (box-place (boxes-count m)) (patched m 2272 new)) ((boxes-count m + 1) ∷ []) 67 _ _ l₂ (omega arith) (omega arith)
       ∙ touch-area P (box-place (boxes-count m)) (patched m 2272 new) l₁

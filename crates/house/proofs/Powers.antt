@@ -47,7 +47,7 @@ pub first-written : (m m₁ hs : List ℕ) (n d : ℕ) (r : Bool) (new : List �
 first-written m m₁ hs n d r new long is some most seven e f w =
     let old : List ℕ = take (2272 + d - 2272) (drop 2272 m₁) in
     let lent : old ≡ part m 2272 n =
-        lent-part m₁ 2272 d n is ∙ ap (λ l. part l 2272 n) e ∙ part-patched-after m 64 hs 2272 n (omega arith) (omega arith) in
+    lent-part m₁ 2272 d n is ∙ ap (λ l. part l 2272 n) e ∙ part-patched-after m 64 hs 2272 n (omega arith) (omega arith) in
     let size : length (part m 2272 n) ≡ n = length-part m 2272 n (omega arith) in
     let fits : r ≡ true = f ∙ le-leb 876 (length old) (omega (arith, ap length lent, size)) in
     let first : new ≡ first-directory (part m 2272 n) = w ∙ ap (λ t. pick t (first-directory old) old) fits ∙ ap first-directory lent in
@@ -99,7 +99,7 @@ module _ (P t : ℕ) (p m : List ℕ) where
   directory-more most long few h k =
       rw (lt-ltb t (directory-pages P) h, lt-ltb (t + 1) (directory-pages P) k)
       (ap (λ ws. go (ReadDirectory (t + 1)) (read (table-place P ws (t + 1))) (patched m (2272 + 64 * t) (words-in 64 p)))
-        (sym (coming-kept m (words-in 64 p) (64 * selector-pages P) t (selector-words-most P most) long few)))
+      (sym (coming-kept m (words-in 64 p) (64 * selector-pages P) t (selector-words-most P most) long few)))
 
   pub directory-last : t < directory-pages P → directory-pages P ≤ t + 1 → directory-read P t p m ≡ go Idle done (patched m (2272 + 64 * t) (words-in 64 p))
   unfolding directory-read

@@ -46,7 +46,7 @@ pub person-registers : (l : List ℕ) (a b w x : ℕ) → length l ≡ 262144 �
     set (set (set (set l 66 a) 67 b) 70 w) 6 x ≡ patched (patched (patched l 66 (a ∷ b ∷ [])) 70 (w ∷ [])) 6 (x ∷ [])
 person-registers l a b w x long =
     let counts : set (set l 66 a) 67 b ≡ patched l 66 (a ∷ b ∷ []) =
-        ap (λ r. set r 67 b) (set-is-patched l 66 a (omega arith)) ∙ set-next l 66 (a ∷ []) 67 b refl (omega arith) in
+    ap (λ r. set r 67 b) (set-is-patched l 66 a (omega arith)) ∙ set-next l 66 (a ∷ []) 67 b refl (omega arith) in
     let l₁ : length (patched l 66 (a ∷ b ∷ [])) ≡ 262144 = length-patched l 66 (a ∷ b ∷ []) (omega arith) ∙ long in
     let l₂ : length (patched (patched l 66 (a ∷ b ∷ [])) 70 (w ∷ [])) ≡ 262144 = length-patched (patched l 66 (a ∷ b ∷ [])) 70 (w ∷ []) (omega arith) ∙ l₁ in
     ap (λ r. set (set r 70 w) 6 x) counts

@@ -79,7 +79,7 @@ counted-more m l n i h long lt e =
     let size : length (part m 1184 n) ≡ n = length-part m 1184 n (omega arith) in
     let front : length (take i (part m 1184 n)) ≡ i = length-take-le i (part m 1184 n) (omega arith) in
     let word : getD l (1184 + i) 0 ≡ getD (part m 1184 n) i 0 =
-        ap (λ x. getD x (1184 + i) 0) e ∙ getD-patched-after m 96 (take i (part m 1184 n)) (1184 + i) 0 (omega arith) (omega arith) ∙ sym (getD-part m 1184 n i 0 lt) in
+    ap (λ x. getD x (1184 + i) 0) e ∙ getD-patched-after m 96 (take i (part m 1184 n)) (1184 + i) 0 (omega arith) (omega arith) ∙ sym (getD-part m 1184 n i 0 lt) in
     ap (λ x. set x (96 + i) (getD l (1184 + i) 0)) e
     ∙ ap (set (patched m 96 (take i (part m 1184 n))) (96 + i)) word
     ∙ patched-more m 96 (part m 1184 n) i (omega arith) (omega arith)

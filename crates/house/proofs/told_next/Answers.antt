@@ -58,4 +58,4 @@ returns-in-rest-load c =
     let P = c .in-Some .geometry .pages in
     out-does m (c .args .out .now) (c .out-of-turn-in-rest-load .result) (c .out-of-turn-in-rest-load .ensures)
     (next-taken m P (c .load .result) (sym (c .in-Some .ensures tt .known)) (c .in-Some .ensures tt .ready .0) (c .load .ensures)
-      ∙ next-out P (c .load .result) m (c .in-rest-load .not-ShowBoxes) (c .in-rest-load .not-WriteTable) (c .in-rest-load .not-WriteSelectors) (c .in-rest-load .not-WriteHeader) (c .in-rest-load .not-FlushHeader) (c .in-rest-load .not-Committed) (c .in-rest-load .not-Shown))
+    ∙ next-out P (c .load .result) m (c .in-rest-load .not-ShowBoxes) (c .in-rest-load .not-WriteTable) (c .in-rest-load .not-WriteSelectors) (c .in-rest-load .not-WriteHeader) (c .in-rest-load .not-FlushHeader) (c .in-rest-load .not-Committed) (c .in-rest-load .not-Shown))

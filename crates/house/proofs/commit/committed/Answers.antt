@@ -23,6 +23,7 @@ unfolding committed in-bytes
 returns c =
     let n = to-show (c .args .memory .now) - 1 in
     let bytes = c .copy-from-slice .ensures .after ∙ c .to-be-bytes .ensures ∙ sym (eight-is n) in
-    rw (ne-eqb (to-show (c .args .memory .now)) 0 (c .if-to-show-eq0 .left))
-    (c .store-2 .ensures ∙ ap (in-phase Shown) (c .count-coming .ensures)
-    , told-shows 8 (eight n) (c .args .out .now) _ refl (ap (λ r. r ++ drop 8 (c .args .out .now)) bytes))
+    rw (ne-eqb (to-show (c .args .memory .now)) 0 (c .if-to-show-eq0 .left)) (
+      c .store-2 .ensures ∙ ap (in-phase Shown) (c .count-coming .ensures),
+      told-shows 8 (eight n) (c .args .out .now) _ refl (ap (λ r. r ++ drop 8 (c .args .out .now)) bytes),
+    )

@@ -32,8 +32,9 @@ returns c =
     let boxes : ℕ = c .directory-directory .result .boxes in
     let fits = next-fits boxes words (c .args .person) (c .args .from) i out (c .pre .1) (c .in-Some .ensures tt) in
     let row : box-row (box-of words i) ≡ box-row (box-of (directory-of P m) i) = ap (λ ws. box-row (box-of ws i)) (c .directory-directory .ensures .words-are) in
-    does-as _ _ _ _ (shows-some P (c .args .person) (c .args .from) m i (box-next _ _ _ _ _ (c .directory-directory .ensures) (c .args .person) (c .args .from) (Some i) (c .in-Some .ensures tt)))
-    ( c .store-2 .ensures
-    , told-shows (c .in-Some-box-row .len) (box-row (box-of (directory-of P m) i)) out (c .box-row .last .out)
-      (some-place _ _ (c .in-Some-box-row .len) fits (c .in-Some-box-row .ensures tt .says) ∙ ap length row)
-      (c .in-Some-box-row .ensures tt .written ∙ ap (λ t. row-over t (box-row (box-of words i)) out) fits ∙ ap (λ r. r ++ drop (length r) out) row) )
+    does-as _ _ _ _ (shows-some P (c .args .person) (c .args .from) m i (box-next _ _ _ _ _ (c .directory-directory .ensures) (c .args .person) (c .args .from) (Some i) (c .in-Some .ensures tt))) (
+      c .store-2 .ensures,
+      told-shows (c .in-Some-box-row .len) (box-row (box-of (directory-of P m) i)) out (c .box-row .last .out)
+          (some-place _ _ (c .in-Some-box-row .len) fits (c .in-Some-box-row .ensures tt .says) ∙ ap length row)
+          (c .in-Some-box-row .ensures tt .written ∙ ap (λ t. row-over t (box-row (box-of words i)) out) fits ∙ ap (λ r. r ++ drop (length r) out) row),
+    )

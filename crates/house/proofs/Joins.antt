@@ -1,10 +1,10 @@
 -- Join, new box and boxes: which way the definition goes, from the tests of the code, and what a new person or box leaves as it was.
-use mathlib.Core.Path.{_≡_, refl, sym, _∙_, ap}
-use mathlib.Core.Bool.{Bool, true, false, _&&_, not}
+use mathlib.Core.Path.{_≡_, sym, _∙_, ap}
+use mathlib.Core.Bool.{true, false}
 use mathlib.Core.List.{List, [], _∷_}
 use Prim.Native.Nat.{ℕ, _+_, _*_, _-_, _/_, _≤_, _<_}
 use lib.Dec.{ltb, leb}
-use lib.ListN.{length, getD}
+use lib.ListN.{length}
 use native.Mathlib.Omega.{arith}
 use Rattle.std.proofs.shelf.Tests.{lt-ltb, le-ltb, le-leb, lt-leb, and-from}
 use Rattle.std.specs.declared.option.Option.{Option}
@@ -23,7 +23,7 @@ use Rattle.mailboxes.proofs.Places.{first-some}
 use Rattle.mailboxes.proofs.Records.{box-row-short}
 use Rattle.mailboxes.proofs.Changes.{length-with-person, length-with-box}
 use Rattle.house.specs.declared.phase.Phase.the-variants.{Idle, ShowBoxes}
-use Rattle.house.specs.Memory.{area-of, people-of, boxes-count, counting-of, coming-of, directory-of}
+use Rattle.house.specs.Memory.{area-of, people-of, boxes-count, directory-of}
 use Rattle.house.specs.Machine.{refuse, go, touch-record, commit, no-room, person-added, joins, box-added, makes-box, shows-boxes}
 use Rattle.house.specs.Does.{Lends}
 use Rattle.house.proofs.Touches.{selector-words-most}
@@ -111,7 +111,7 @@ touch-area P at m long = getD-patched-before m 1184 _ 65 0 (omega arith) (omega 
 touched-length : (m : List ℕ) (n t u : ℕ) → n ≤ 1088 → length m ≡ 262144 → length (patched m 1184 (touched (part m 96 n) (touched (part m 96 n) (part m 1184 n) t) u)) ≡ 262144
 touched-length m n t u h long =
     let size : length (touched (part m 96 n) (touched (part m 96 n) (part m 1184 n) t) u) ≡ n =
-        length-touched (part m 96 n) (touched (part m 96 n) (part m 1184 n) t) u ∙ length-touched (part m 96 n) (part m 1184 n) t ∙ length-part m 1184 n (omega arith) in
+    length-touched (part m 96 n) (touched (part m 96 n) (part m 1184 n) t) u ∙ length-touched (part m 96 n) (part m 1184 n) t ∙ length-part m 1184 n (omega arith) in
     length-patched m 1184 (touched (part m 96 n) (touched (part m 96 n) (part m 1184 n) t) u) (omega arith) ∙ long
 
 touch-length : (P at : ℕ) (m : List ℕ) → P ≤ 1048576 → length m ≡ 262144 → length (touch-record P at m) ≡ 262144
@@ -139,7 +139,7 @@ module _ (P : ℕ) (nm m : List ℕ) (d : ℕ) (size : P ≤ 1048576) (long : le
   person-area few =
       let new = with-person (people-of m) (boxes-count m) (directory-of P m) nm in
       let l₁ : length (patched m 2272 new) ≡ 262144 =
-          directory-length m new d long most (length-with-person (people-of m) (boxes-count m) (directory-of P m) nm few (omega (arith, words-long)) ∙ words-long) in
+      directory-length m new d long most (length-with-person (people-of m) (boxes-count m) (directory-of P m) nm few (omega (arith, words-long)) ∙ words-long) in
       let l₂ = touch-length P (person-place (people-of m)) (patched m 2272 new) size l₁ in
       let l₃ = touch-length P (box-place (boxes-count m)) (touch-record P (person-place (people-of m)) (patched m 2272 new)) size l₂ in
       registers-area (touch-record P (box-place (boxes-count m)) (touch-record P (person-place (people-of m)) (patched m 2272 new))) ((people-of m + 1) ∷ (boxes-count m + 1) ∷ []) 66 _ _ l₃ (omega arith) (omega arith)
@@ -152,7 +152,7 @@ module _ (P : ℕ) (nm m : List ℕ) (d : ℕ) (size : P ≤ 1048576) (long : le
   box-area a =
       let new = with-box (boxes-count m) (directory-of P m) a nm in
       let l₁ : length (patched m 2272 new) ≡ 262144 =
-          directory-length m new d long most (length-with-box (boxes-count m) (directory-of P m) a nm (omega (arith, words-long)) ∙ words-long) in
+      directory-length m new d long most (length-with-box (boxes-count m) (directory-of P m) a nm (omega (arith, words-long)) ∙ words-long) in
       let l₂ = touch-length P (box-place (boxes-count m)) (patched m 2272 new) size l₁ in
       registers-area (touch-record P (box-place (boxes-count m)) (patched m 2272 new)) ((boxes-count m + 1) ∷ []) 67 _ _ l₂ (omega arith) (omega arith)
       ∙ touch-area P (box-place (boxes-count m)) (patched m 2272 new) l₁

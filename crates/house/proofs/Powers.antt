@@ -4,20 +4,20 @@ use mathlib.Core.Bool.{Bool, true, false, _&&_, false≢true}
 use mathlib.Core.List.{List, [], _∷_}
 use mathlib.Core.Logic.{_⊎_, inl, inr}
 use Prim.Native.Nat.{ℕ, _+_, _*_, _-_, _≤_, _<_}
-use lib.Dec.{eqb, ltb, leb}
+use lib.Dec.{ltb, leb}
 use lib.ListN.{length, getD, take, drop}
 use native.Mathlib.Omega.{arith}
 use borrow.Rule.Slice.PartMut.{putMid}
 use Rattle.std.proofs.shelf.Tests.{eq-eqb, ne-eqb, lt-ltb, le-ltb, le-leb, lt-leb}
 use Rattle.model.specs.Mail.{pick}
-use Rattle.model.specs.Run.{Step, read, done}
+use Rattle.model.specs.Run.{read, done}
 use Rattle.pages.specs.Words.{words-in, part, patched}
 use Rattle.pages.specs.Geometry.{selector-pages, directory-pages, selector-place, table-place}
-use Rattle.pages.proofs.Words.{length-part, part-patched-after, part-patched-before, length-words-in}
+use Rattle.pages.proofs.Words.{length-part, part-patched-after, part-patched-before}
 use Rattle.mailboxes.specs.Directory.{first-directory}
 use Rattle.mailboxes.proofs.Changes.{length-first-directory}
 use Rattle.house.specs.declared.phase.Phase.the-variants.{ReadSelectors, ReadDirectory, Idle}
-use Rattle.house.specs.Memory.{memory-len, area-of, coming-of}
+use Rattle.house.specs.Memory.{memory-len, area-of}
 use Rattle.house.specs.Machine.{refuse, go, powered-up, first-house-made, header-read, selectors-read, directory-read, with-selectors}
 use Rattle.house.specs.Does.{directory-asked}
 use Rattle.house.proofs.Touches.{selector-words-most}
@@ -47,7 +47,7 @@ pub first-written : (m m₁ hs : List ℕ) (n d : ℕ) (r : Bool) (new : List �
 first-written m m₁ hs n d r new long is some most seven e f w =
     let old : List ℕ = take (2272 + d - 2272) (drop 2272 m₁) in
     let lent : old ≡ part m 2272 n =
-        lent-part m₁ 2272 d n is ∙ ap (λ l. part l 2272 n) e ∙ part-patched-after m 64 hs 2272 n (omega arith) (omega arith) in
+    lent-part m₁ 2272 d n is ∙ ap (λ l. part l 2272 n) e ∙ part-patched-after m 64 hs 2272 n (omega arith) (omega arith) in
     let size : length (part m 2272 n) ≡ n = length-part m 2272 n (omega arith) in
     let fits : r ≡ true = f ∙ le-leb 876 (length old) (omega (arith, ap length lent, size)) in
     let first : new ≡ first-directory (part m 2272 n) = w ∙ ap (λ t. pick t (first-directory old) old) fits ∙ ap first-directory lent in
@@ -99,7 +99,7 @@ module _ (P t : ℕ) (p m : List ℕ) where
   directory-more most long few h k =
       rw (lt-ltb t (directory-pages P) h, lt-ltb (t + 1) (directory-pages P) k)
       (ap (λ ws. go (ReadDirectory (t + 1)) (read (table-place P ws (t + 1))) (patched m (2272 + 64 * t) (words-in 64 p)))
-        (sym (coming-kept m (words-in 64 p) (64 * selector-pages P) t (selector-words-most P most) long few)))
+      (sym (coming-kept m (words-in 64 p) (64 * selector-pages P) t (selector-words-most P most) long few)))
 
   pub directory-last : t < directory-pages P → directory-pages P ≤ t + 1 → directory-read P t p m ≡ go Idle done (patched m (2272 + 64 * t) (words-in 64 p))
   unfolding directory-read

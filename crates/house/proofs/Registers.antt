@@ -1,18 +1,17 @@
 -- Registers and records that a new person or box writes, as the definition has them.
 use mathlib.Core.Path.{_≡_, refl, sym, _∙_, ap}
-use mathlib.Core.Bool.{Bool, true, false, _&&_, not}
+use mathlib.Core.Bool.{Bool, true, false, not}
 use mathlib.Core.List.{List, [], _∷_}
 use Prim.Native.Nat.{ℕ, _+_, _*_, _-_, _≤_, _<_}
-use lib.Dec.{ltb, leb}
-use lib.ListN.{length, getD, set, take, drop, length-set}
+use lib.Dec.{leb}
+use lib.ListN.{length, set, take, drop}
 use native.Mathlib.Omega.{arith}
 use borrow.Rule.Slice.PartMut.{putMid}
 use Rattle.std.proofs.shelf.Tests.{and-parts, leb-true, lt-leb, le-leb}
 use Rattle.model.specs.Mail.{pick}
 use Rattle.pages.specs.Words.{part, patched}
 use Rattle.pages.specs.Geometry.{directory-pages}
-use Rattle.pages.proofs.Words.{length-part, length-patched, set-is-patched, getD-patched-before, getD-patched-after}
-use Rattle.pages.proofs.Bits.{length-touched}
+use Rattle.pages.proofs.Words.{length-part, length-patched, set-is-patched}
 use Rattle.mailboxes.specs.Directory.{with-person, with-box}
 use Rattle.mailboxes.specs.Room.{room-for}
 use Rattle.mailboxes.proofs.Writes.{set-next}
@@ -47,7 +46,7 @@ pub person-registers : (l : List ℕ) (a b w x : ℕ) → length l ≡ 262144 �
     set (set (set (set l 66 a) 67 b) 70 w) 6 x ≡ patched (patched (patched l 66 (a ∷ b ∷ [])) 70 (w ∷ [])) 6 (x ∷ [])
 person-registers l a b w x long =
     let counts : set (set l 66 a) 67 b ≡ patched l 66 (a ∷ b ∷ []) =
-        ap (λ r. set r 67 b) (set-is-patched l 66 a (omega arith)) ∙ set-next l 66 (a ∷ []) 67 b refl (omega arith) in
+    ap (λ r. set r 67 b) (set-is-patched l 66 a (omega arith)) ∙ set-next l 66 (a ∷ []) 67 b refl (omega arith) in
     let l₁ : length (patched l 66 (a ∷ b ∷ [])) ≡ 262144 = length-patched l 66 (a ∷ b ∷ []) (omega arith) ∙ long in
     let l₂ : length (patched (patched l 66 (a ∷ b ∷ [])) 70 (w ∷ [])) ≡ 262144 = length-patched (patched l 66 (a ∷ b ∷ [])) 70 (w ∷ []) (omega arith) ∙ l₁ in
     ap (λ r. set (set r 70 w) 6 x) counts

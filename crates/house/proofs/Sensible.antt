@@ -1,8 +1,8 @@
 -- What it comes to that a memory is sensible.
-use mathlib.Core.Path.{_≡_, refl, sym, _∙_}
-use mathlib.Core.Bool.{Bool, true, false, _&&_}
+use mathlib.Core.Path.{_≡_, sym}
+use mathlib.Core.Bool.{true, false, _&&_}
 use mathlib.Core.List.{List}
-use mathlib.Core.Logic.{_⊎_, inl, inr}
+use mathlib.Core.Logic.{inl, inr}
 use Prim.Native.Nat.{ℕ, _+_, _*_, _-_, _/_, _≤_, _<_}
 use lib.Dec.{eqb, ltb, leb}
 use lib.ListN.{length}
@@ -27,25 +27,27 @@ module _ (m : List ℕ) where
       let (ways, counts) = and-parts (leb (houses-count m) 16 && ltb (area-of m) 2) (leb (people-of m) 64 && leb (864 + 12 * boxes-count m) (64 * directory-pages (pages-count m))) b in
       let (houses, area) = and-parts (leb (houses-count m) 16) (ltb (area-of m) 2) ways in
       let (people, boxes) = and-parts (leb (people-of m) 64) (leb (864 + 12 * boxes-count m) (64 * directory-pages (pages-count m))) counts in
-      record
-      { least = leb-true 256 (pages-count m) least
-      ; most = leb-true (pages-count m) 1048576 most
-      ; ready = record
-        { long = eqb-true (length m) memory-len long
-        ; houses-few = leb-true (houses-count m) 16 houses
-        ; area-known = ltb-true (area-of m) 2 area
-        ; people-few = leb-true (people-of m) 64 people
-        ; boxes-fit = leb-true (864 + 12 * boxes-count m) (64 * directory-pages (pages-count m)) boxes } }
+      record {
+        least = leb-true 256 (pages-count m) least;
+        most = leb-true (pages-count m) 1048576 most;
+        ready = record {
+          long = eqb-true (length m) memory-len long;
+          houses-few = leb-true (houses-count m) 16 houses;
+          area-known = ltb-true (area-of m) 2 area;
+          people-few = leb-true (people-of m) 64 people;
+          boxes-fit = leb-true (864 + 12 * boxes-count m) (64 * directory-pages (pages-count m)) boxes;
+        };
+      }
 
   pub fits-sensible : Fits m → sensible m ≡ true
   unfolding sensible
   fits-sensible f =
       and-from (eqb (length m) memory-len && (leb 256 (pages-count m) && leb (pages-count m) 1048576)) ((leb (houses-count m) 16 && ltb (area-of m) 2) && (leb (people-of m) 64 && leb (864 + 12 * boxes-count m) (64 * directory-pages (pages-count m))))
       (and-from (eqb (length m) memory-len) (leb 256 (pages-count m) && leb (pages-count m) 1048576) (eq-eqb (length m) memory-len (f .ready .long))
-        (and-from (leb 256 (pages-count m)) (leb (pages-count m) 1048576) (le-leb 256 (pages-count m) (f .least)) (le-leb (pages-count m) 1048576 (f .most))))
+      (and-from (leb 256 (pages-count m)) (leb (pages-count m) 1048576) (le-leb 256 (pages-count m) (f .least)) (le-leb (pages-count m) 1048576 (f .most))))
       (and-from (leb (houses-count m) 16 && ltb (area-of m) 2) (leb (people-of m) 64 && leb (864 + 12 * boxes-count m) (64 * directory-pages (pages-count m)))
-        (and-from (leb (houses-count m) 16) (ltb (area-of m) 2) (le-leb (houses-count m) 16 (f .ready .houses-few)) (lt-ltb (area-of m) 2 (f .ready .area-known)))
-        (and-from (leb (people-of m) 64) (leb (864 + 12 * boxes-count m) (64 * directory-pages (pages-count m))) (le-leb (people-of m) 64 (f .ready .people-few)) (le-leb (864 + 12 * boxes-count m) (64 * directory-pages (pages-count m)) (f .ready .boxes-fit))))
+      (and-from (leb (houses-count m) 16) (ltb (area-of m) 2) (le-leb (houses-count m) 16 (f .ready .houses-few)) (lt-ltb (area-of m) 2 (f .ready .area-known)))
+      (and-from (leb (people-of m) 64) (leb (864 + 12 * boxes-count m) (64 * directory-pages (pages-count m))) (le-leb (people-of m) 64 (f .ready .people-few)) (le-leb (864 + 12 * boxes-count m) (64 * directory-pages (pages-count m)) (f .ready .boxes-fit))))
 
   pub not-sensible : (Fits m → ⊥) → false ≡ sensible m
   not-sensible n = elim (cases-bool (sensible m)) [ inl e ↦ absurd (n (sensible-fits e)) | inr e ↦ sym e ]

@@ -47,7 +47,7 @@ module _ (memory : List ℕ) (kind : ℕ) (bytes out : List ℕ) where
   refused-step f = rw f (refl, refl, refl)
 
   pub taken-step : (r : Told) (memory₁ out₁ : List ℕ) (ev : Event) → length memory ≡ 262144 → kind ≤ 5 → 131072 ≤ length out → ev ≡ event-of kind bytes
-    → Responds memory ev r out memory₁ out₁ → Step-says memory kind bytes out (step-fits memory kind bytes out) r memory₁ out₁
+      → Responds memory ev r out memory₁ out₁ → Step-says memory kind bytes out (step-fits memory kind bytes out) r memory₁ out₁
   unfolding Step-says
   taken-step r memory₁ out₁ ev m k o e a = rw (fits m k o, ← e) a
 
@@ -70,6 +70,6 @@ module _ (memory : List ℕ) (kind : ℕ) (bytes out told : List ℕ) where
   not-exported n = rw (ne-eqb (length told) 2 n) (refl, refl, refl, refl)
 
   pub exported : (r : Told) (p : ℕ × ℕ) (memory₁ out₁ : List ℕ) → length told ≡ 2 → Step-says memory kind bytes out (step-fits memory kind bytes out) r memory₁ out₁
-    → p ≡ told-numbers r → Exported memory kind bytes out told 1 memory₁ out₁ (set (set told 0 (p .0)) 1 (p .1))
+      → p ≡ told-numbers r → Exported memory kind bytes out told 1 memory₁ out₁ (set (set told 0 (p .0)) 1 (p .1))
   unfolding Exported
   exported r p memory₁ out₁ l says e = rw (eq-eqb (length told) 2 l) (refl, (r, says, two-set told (p .0) (p .1) l ∙ ap (λ (q : ℕ × ℕ). q .0 ∷ q .1 ∷ []) e))

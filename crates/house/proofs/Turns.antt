@@ -1,8 +1,8 @@
 -- Which step the definition takes, from the phase and the command that the code finds; and what is refused.
-use mathlib.Core.Path.{_≡_, refl, sym, _∙_, ap}
-use mathlib.Core.Bool.{Bool, true, false, _&&_, false≢true}
+use mathlib.Core.Path.{_≡_, refl, ap}
+use mathlib.Core.Bool.{true, false, _&&_}
 use mathlib.Core.List.{List, [], _∷_}
-use Prim.Native.Nat.{ℕ, zero, suc, _≤_, _<_}
+use Prim.Native.Nat.{ℕ, suc, _≤_, _<_}
 use lib.Dec.{eqb, ltb, leb}
 use lib.ListN.{length, getD}
 use native.Mathlib.Omega.{arith}
@@ -16,7 +16,7 @@ use denote.Ref.{RefT}
 use Rattle.model.specs.House.{Command, join, hand-in, boxes, new-box, drop-box, list, get, set-mark, to-box, clear, rules, find, push, a-name, fits}
 use Rattle.model.specs.Device.{a-page}
 use Rattle.model.specs.Promise.{Said}
-use Rattle.model.specs.Run.{Event, on, said, page, next, heard, lost}
+use Rattle.model.specs.Run.{said, page, next}
 use Rattle.commands.specs.declared.Command.{Command as Lent}
 use Rattle.commands.specs.declared.Command.the-variants.{Join, HandIn, Boxes, NewBox, DropBox, List as ListBox, Get, SetMark, ToBox, Clear, Rules, Find, Push}
 use Rattle.commands.specs.Meaning.{meaning}

@@ -1,15 +1,15 @@
 -- What the code reads and writes piece by piece, as the parts and patches of the definition.
 use mathlib.Core.Path.{_≡_, refl, sym, _∙_, ap}
-use mathlib.Core.Bool.{Bool, true, false, _&&_}
+use mathlib.Core.Bool.{Bool, true}
 use mathlib.Core.List.{List, [], _∷_, _++_, append-assoc}
 use Prim.Native.Nat.{ℕ, zero, suc, _+_, _*_, _-_, _≤_, _<_}
 use lib.Dec.{leb}
-use lib.ListN.{length, getD, set, take, drop, replicate, length-append, length-take, length-drop, take-append-drop}
+use lib.ListN.{length, getD, set, take, drop, replicate, length-append, take-append-drop}
 use lib.Seq.{take-at, drop-at, drop-drop, length-take-le}
 use native.Mathlib.Omega.{arith}
 use borrow.Rule.Slice.PartMut.{putMid}
 use borrow.Author.Tests.{le-leb}
-use Rattle.model.specs.Mail.{pick, eight}
+use Rattle.model.specs.Mail.{pick}
 use Rattle.model.specs.Device.{zeros}
 use Rattle.pages.specs.Words.{part, patched, bytes-of, words-in}
 use Rattle.pages.proofs.Words.{length-part, length-bytes-of, length-zeros, patched-is-putMid, length-words-in, getD-part, getD-patched-after}
@@ -79,7 +79,7 @@ counted-more m l n i h long lt e =
     let size : length (part m 1184 n) ≡ n = length-part m 1184 n (omega arith) in
     let front : length (take i (part m 1184 n)) ≡ i = length-take-le i (part m 1184 n) (omega arith) in
     let word : getD l (1184 + i) 0 ≡ getD (part m 1184 n) i 0 =
-        ap (λ x. getD x (1184 + i) 0) e ∙ getD-patched-after m 96 (take i (part m 1184 n)) (1184 + i) 0 (omega arith) (omega arith) ∙ sym (getD-part m 1184 n i 0 lt) in
+    ap (λ x. getD x (1184 + i) 0) e ∙ getD-patched-after m 96 (take i (part m 1184 n)) (1184 + i) 0 (omega arith) (omega arith) ∙ sym (getD-part m 1184 n i 0 lt) in
     ap (λ x. set x (96 + i) (getD l (1184 + i) 0)) e
     ∙ ap (set (patched m 96 (take i (part m 1184 n))) (96 + i)) word
     ∙ patched-more m 96 (part m 1184 n) i (omega arith) (omega arith)

@@ -20,6 +20,7 @@ use super::memory::HEADER;
 use super::memory::HEADER_WORDS;
 use super::memory::PAGE_LEN;
 use super::memory::PAGE_WORDS;
+use super::memory::RECORD_WORDS;
 use super::memory::TO_SHOW;
 use super::memory::selector_words;
 use super::phase::Phase;
@@ -29,9 +30,8 @@ use pages::selectors::bit;
 use pages::selectors::flip;
 use pages::selectors::next_touched;
 
-// A record has so many words.
-const RECORD_WORDS: u64 = 12;
-const WORDS: u64 = 64;
+// Words of a page, in the type of a place in the directory.
+const WORDS: u64 = PAGE_WORDS as u64;
 
 // The pages on which a record lies that begins at a word of the directory are to change.
 pub fn touch_record(memory: &mut [u64], geometry: &Geometry, at: u64)
@@ -62,7 +62,12 @@ pub fn commit(memory: &mut [u64], geometry: &Geometry, from: u64, out: &mut [u8]
     ensures { λ r. ⌜ Does (commit (now (geometry .entry) .pages) from (now (memory .entry))) r (now (out .entry)) (now (memory .exit)) (now (out .exit)) ⌝ }
 {
     let words = selector_words(geometry);
-    let touched = next_touched(&memory[COUNTING..COUNTING + words], &memory[COMING..COMING + words], from, geometry.directory_pages());
+    let touched = next_touched(
+        &memory[COUNTING..COUNTING + words],
+        &memory[COMING..COMING + words],
+        from,
+        geometry.directory_pages(),
+    );
     match touched {
         None => write_selectors(memory, geometry, 0, out),
         Some(t) => write_table(memory, geometry, t, out),
@@ -110,6 +115,7 @@ pub fn selectors_next(memory: &mut [u64], geometry: &Geometry, q: u64, out: &mut
     Told::Flush
 }
 
+// Writes zeros.
 fn blank(bytes: &mut [u8])
     ensures { λ _. ⌜ now (bytes .exit) ≡ zeros (length (now (bytes .entry))) ⌝ }
 {

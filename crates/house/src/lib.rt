@@ -21,14 +21,14 @@ ghost use Rattle.house.specs.Knows.{known};
 ghost use Rattle.house.specs.Machine.{obeys, own, stepped};
 ghost use Rattle.house.specs.Told.{Responds, event-meant};
 ghost use Rattle.house.specs.Does.{Ready, Does, Quietly, told-result};
+use commands::Command;
 pub use event::Event;
 pub use memory::MEMORY_LEN;
-pub use phase::Phase;
-pub use refusal::Refusal;
-use commands::Command;
 use memory::PAGE_LEN;
 use memory::sensible;
 use pages::places::Geometry;
+pub use phase::Phase;
+pub use refusal::Refusal;
 
 // How many bytes the lent row for pages, rows and radio letters has at least.
 pub const OUT_LEN: usize = 131_072;
@@ -55,7 +55,12 @@ fn out_of_turn() -> Told
 }
 
 // A command, at rest.
-fn obey(memory: &mut [u64], geometry: &Geometry, text: &[u8], out: &mut [u8]) -> Result<Told, Refusal>
+fn obey(
+    memory: &mut [u64],
+    geometry: &Geometry,
+    text: &[u8],
+    out: &mut [u8],
+) -> Result<Told, Refusal>
     requires { ⌜ Ready (now geometry .pages) (now memory) ⌝ ∗ ⌜ 131072 ≤ length (now out) ⌝ }
     ensures { λ r. ⌜ Does (obeys (now (geometry .entry) .pages) (command-of (now (text .entry))) (now (memory .entry))) (told-result r) (now (out .entry)) (now (memory .exit)) (now (out .exit)) ⌝ }
 {

@@ -12,32 +12,48 @@ pub const MEMORY_LEN: usize = 262_144;
 
 // Registers: the phase takes the first three.
 pub const HOUSE: usize = 3;
+
 pub const HOUSES: usize = 4;
+
 pub const PAGES: usize = 5;
 // What is shown after a commit: 0 for nothing, or one more than the number.
 pub const TO_SHOW: usize = 6;
 
 // The header as it will be written: its area, counts and weight.
 pub const HEADER: usize = 64;
+
 pub const HEADER_WORDS: usize = 32;
+
 pub const AREA: usize = 65;
+
 pub const PEOPLE: usize = 66;
+
 pub const BOXES: usize = 67;
+
 pub const WEIGHT: usize = 70;
 
 // The selector words that count, those that are to count, and the directory.
 pub const COUNTING: usize = 96;
+
 pub const COMING: usize = 1184;
+
 pub const DIRECTORY: usize = 2272;
 
 pub const PAGE_WORDS: usize = 64;
+
 pub const PAGE_LEN: usize = 512;
 
-const MOST_HOUSES: u64 = 16;
-const MOST_PEOPLE: u64 = 64;
+// There are at most so many houses, and people at each.
+pub const MOST_HOUSES: u64 = 16;
+
+pub const MOST_PEOPLE: u64 = 64;
+
 const AREAS: u64 = 2;
-const BOXES_PLACE: u64 = 864;
-const RECORD_WORDS: u64 = 12;
+
+// Records of people and boxes have so many words; in the directory those of boxes begin behind people and ways.
+pub const RECORD_WORDS: u64 = 12;
+
+pub const BOXES_PLACE: u64 = 864;
 
 // How many selector words there are.
 pub fn selector_words(geometry: &Geometry) -> usize
@@ -67,7 +83,12 @@ pub fn sensible(memory: &[u64]) -> Option<Geometry>
     let Some(geometry) = Geometry::of(memory[PAGES]) else {
         return None;
     };
-    let (houses, area, people, boxes) = (memory[HOUSES], memory[AREA], memory[PEOPLE], memory[BOXES]);
+    let (houses, area, people, boxes) = (
+        memory[HOUSES],
+        memory[AREA],
+        memory[PEOPLE],
+        memory[BOXES],
+    );
     if houses > MOST_HOUSES || area >= AREAS || people > MOST_PEOPLE {
         return None;
     }

@@ -11,8 +11,11 @@ use super::Told;
 use super::commit::commit;
 use super::commit::touch_record;
 use super::memory::BOXES;
+use super::memory::BOXES_PLACE;
 use super::memory::DIRECTORY;
+use super::memory::MOST_PEOPLE;
 use super::memory::PEOPLE;
+use super::memory::RECORD_WORDS;
 use super::memory::TO_SHOW;
 use super::memory::WEIGHT;
 use super::memory::directory_words;
@@ -20,25 +23,27 @@ use super::phase::Phase;
 use mailboxes::Directory;
 use pages::places::Geometry;
 
-const MOST_PEOPLE: u64 = 64;
+// A person has at most so many boxes.
 const MOST_BOXES_EACH: u64 = 256;
 
 // What a person with the box "in" weighs, and what a box does.
 const PERSON_WEIGHT: u64 = 776;
+
 const BOX_WEIGHT: u64 = 256;
 
 // Of each page a quarter may be kept.
 const KEPT_OF_PAGE: u64 = 128;
-
-const BOXES_PLACE: u64 = 864;
-const RECORD_WORDS: u64 = 12;
 
 // The directory in the memory.
 fn directory<'a>(memory: &'a [u64], geometry: &Geometry) -> Directory<'a>
     requires { ⌜ Ready (now geometry .pages) (now memory) ⌝ }
     ensures { λ r. ⌜ Lends (now (geometry .entry) .pages) (now (memory .entry)) (now (r .words)) (r .people) (r .boxes) ⌝ }
 {
-    Directory::new(&memory[DIRECTORY..DIRECTORY + directory_words(geometry)], memory[PEOPLE], memory[BOXES])
+    Directory::new(
+        &memory[DIRECTORY..DIRECTORY + directory_words(geometry)],
+        memory[PEOPLE],
+        memory[BOXES],
+    )
 }
 
 // Whether so much more can be kept, and there is a place for one more box.
@@ -53,12 +58,18 @@ fn room(memory: &[u64], geometry: &Geometry, more: u64) -> bool
     BOXES_PLACE + RECORD_WORDS * (memory[BOXES] + 1) <= directory_words(geometry) as u64
 }
 
+// Writes a new person's records, and what the commit is to write and to show.
 fn add_person(memory: &mut [u64], geometry: &Geometry, name: &[u8])
     requires { ⌜ Ready (now geometry .pages) (now memory) ⌝ ∗ ⌜ people-of (now memory) < 64 ⌝ ∗ ⌜ length (now name) ≤ 64 ⌝ ∗ ⌜ no-room (now geometry .pages) 776 (now memory) ≡ false ⌝ }
     ensures { λ _. ⌜ now (memory .exit) ≡ person-added (now (geometry .entry) .pages) (now (name .entry)) (now (memory .entry)) ⌝ }
 {
     let (people, boxes, weight) = (memory[PEOPLE], memory[BOXES], memory[WEIGHT]);
-    mailboxes::add_person(&mut memory[DIRECTORY..DIRECTORY + directory_words(geometry)], people, boxes, name);
+    mailboxes::add_person(
+        &mut memory[DIRECTORY..DIRECTORY + directory_words(geometry)],
+        people,
+        boxes,
+        name,
+    );
     touch_record(memory, geometry, RECORD_WORDS * people);
     touch_record(memory, geometry, BOXES_PLACE + RECORD_WORDS * boxes);
     memory[PEOPLE] = people + 1;
@@ -68,7 +79,12 @@ fn add_person(memory: &mut [u64], geometry: &Geometry, name: &[u8])
 }
 
 // A new person with the box "in"; their number is shown after the commit.
-pub fn join(memory: &mut [u64], geometry: &Geometry, name: &[u8], out: &mut [u8]) -> Result<Told, Refusal>
+pub fn join(
+    memory: &mut [u64],
+    geometry: &Geometry,
+    name: &[u8],
+    out: &mut [u8],
+) -> Result<Told, Refusal>
     requires { ⌜ Ready (now geometry .pages) (now memory) ⌝ ∗ ⌜ length (now name) ≤ 64 ⌝ ∗ ⌜ 131072 ≤ length (now out) ⌝ }
     ensures { λ r. ⌜ Does (joins (now (geometry .entry) .pages) (now (name .entry)) (now (memory .entry))) (told-result r) (now (out .entry)) (now (memory .exit)) (now (out .exit)) ⌝ }
 {
@@ -85,12 +101,18 @@ pub fn join(memory: &mut [u64], geometry: &Geometry, name: &[u8], out: &mut [u8]
     Ok(commit(memory, geometry, 0, out))
 }
 
+// Writes a new box's record, and what the commit is to write.
 fn add_box(memory: &mut [u64], geometry: &Geometry, person: u64, name: &[u8])
     requires { ⌜ Ready (now geometry .pages) (now memory) ⌝ ∗ ⌜ person < 64 ⌝ ∗ ⌜ length (now name) ≤ 64 ⌝ ∗ ⌜ no-room (now geometry .pages) 256 (now memory) ≡ false ⌝ }
     ensures { λ _. ⌜ now (memory .exit) ≡ box-added (now (geometry .entry) .pages) person (now (name .entry)) (now (memory .entry)) ⌝ }
 {
     let (boxes, weight) = (memory[BOXES], memory[WEIGHT]);
-    mailboxes::add_box(&mut memory[DIRECTORY..DIRECTORY + directory_words(geometry)], boxes, person, name);
+    mailboxes::add_box(
+        &mut memory[DIRECTORY..DIRECTORY + directory_words(geometry)],
+        boxes,
+        person,
+        name,
+    );
     touch_record(memory, geometry, BOXES_PLACE + RECORD_WORDS * boxes);
     memory[BOXES] = boxes + 1;
     memory[WEIGHT] = weight + BOX_WEIGHT;
@@ -98,7 +120,13 @@ fn add_box(memory: &mut [u64], geometry: &Geometry, person: u64, name: &[u8])
 }
 
 // A new box of a person, empty and behind all others.
-pub fn new_box(memory: &mut [u64], geometry: &Geometry, person: u64, name: &[u8], out: &mut [u8]) -> Result<Told, Refusal>
+pub fn new_box(
+    memory: &mut [u64],
+    geometry: &Geometry,
+    person: u64,
+    name: &[u8],
+    out: &mut [u8],
+) -> Result<Told, Refusal>
     requires { ⌜ Ready (now geometry .pages) (now memory) ⌝ ∗ ⌜ length (now name) ≤ 64 ⌝ ∗ ⌜ 131072 ≤ length (now out) ⌝ }
     ensures { λ r. ⌜ Does (makes-box (now (geometry .entry) .pages) person (now (name .entry)) (now (memory .entry))) (told-result r) (now (out .entry)) (now (memory .exit)) (now (out .exit)) ⌝ }
 {
@@ -120,7 +148,13 @@ pub fn new_box(memory: &mut [u64], geometry: &Geometry, person: u64, name: &[u8]
 }
 
 // The row of the next box of a person from a place on; after the last one the command is done.
-pub fn show_box(memory: &mut [u64], geometry: &Geometry, person: u64, from: u64, out: &mut [u8]) -> Told
+pub fn show_box(
+    memory: &mut [u64],
+    geometry: &Geometry,
+    person: u64,
+    from: u64,
+    out: &mut [u8],
+) -> Told
     requires { ⌜ Ready (now geometry .pages) (now memory) ⌝ ∗ ⌜ 131072 ≤ length (now out) ⌝ }
     ensures { λ r. ⌜ Does (shows-boxes (now (geometry .entry) .pages) person from (now (memory .entry))) r (now (out .entry)) (now (memory .exit)) (now (out .exit)) ⌝ }
 {
@@ -137,7 +171,12 @@ pub fn show_box(memory: &mut [u64], geometry: &Geometry, person: u64, from: u64,
 }
 
 // The boxes of a person, one row after the other.
-pub fn boxes(memory: &mut [u64], geometry: &Geometry, person: u64, out: &mut [u8]) -> Result<Told, Refusal>
+pub fn boxes(
+    memory: &mut [u64],
+    geometry: &Geometry,
+    person: u64,
+    out: &mut [u8],
+) -> Result<Told, Refusal>
     requires { ⌜ Ready (now geometry .pages) (now memory) ⌝ ∗ ⌜ 131072 ≤ length (now out) ⌝ }
     ensures { λ r. ⌜ Does (boxes-asked (now (geometry .entry) .pages) person (now (memory .entry))) (told-result r) (now (out .entry)) (now (memory .exit)) (now (out .exit)) ⌝ }
 {

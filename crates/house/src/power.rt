@@ -11,6 +11,7 @@ use super::Refusal;
 use super::Told;
 use super::commit::touch_record;
 use super::memory::AREA;
+use super::memory::BOXES_PLACE;
 use super::memory::COMING;
 use super::memory::COUNTING;
 use super::memory::DIRECTORY;
@@ -18,6 +19,7 @@ use super::memory::HEADER;
 use super::memory::HEADER_WORDS;
 use super::memory::HOUSE;
 use super::memory::HOUSES;
+use super::memory::MOST_HOUSES;
 use super::memory::PAGE_WORDS;
 use super::memory::TO_SHOW;
 use super::memory::directory_words;
@@ -26,10 +28,9 @@ use super::phase::Phase;
 use pages::bytes::load;
 use pages::places::Geometry;
 
-const MOST_HOUSES: u64 = 16;
-
 // What one person with one box weighs, and what a house's way does.
 const FIRST_WEIGHT: u64 = 776;
+
 const WAY_WEIGHT: u64 = 64;
 
 // How many words of the header say anything: the version, the area, the people, the boxes, the slots and bodies in use, and the weight.
@@ -37,7 +38,8 @@ const FIRST_WORDS: usize = 7;
 
 // Where the first records lie in the directory.
 const FIRST_PERSON: u64 = 0;
-const FIRST_BOX: u64 = 864;
+
+const FIRST_BOX: u64 = BOXES_PLACE;
 
 // Power is there: the house's number, how many houses there are and how many pages it has are kept, and the header is asked for.
 pub fn begin(memory: &mut [u64], house: u64, houses: u64, pages: u64) -> Told

@@ -1,9 +1,9 @@
 -- Each event is told to the function for it.
-use mathlib.Core.Path.{_≡_, refl, ap}
+use mathlib.Core.Path.{ap}
 use mathlib.Core.Logic.{inl, inr}
 use Rattle.house.specs.Machine.{own, stepped}
 use Rattle.house.specs.Told.{event-meant}
-use Rattle.house.proofs.Acts.{does-as, quietly-as, out-does}
+use Rattle.house.proofs.Acts.{does-as, out-does}
 use Rattle.house.proofs.respond.Needs as need
 
 pub returns-in-Power : need.returns-in-Power

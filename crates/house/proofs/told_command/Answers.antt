@@ -1,4 +1,5 @@
-use mathlib.Core.Path.{_≡_, refl, sym, _∙_, ap, subst}
+-- At rest the command is obeyed; otherwise it is out of turn.
+use mathlib.Core.Path.{sym, _∙_, subst}
 use Rattle.model.specs.Run.{said}
 use Rattle.house.specs.declared.phase.Phase.the-variants.{Idle}
 use Rattle.house.specs.declared.Told.the-variants.{No}
@@ -18,7 +19,7 @@ returns-in-rest-load c =
     let P = c .in-Some .geometry .pages in
     out-does m (c .args .out .now) (c .out-of-turn-in-rest-load .result) (c .out-of-turn-in-rest-load .ensures)
     (said-taken m P (c .load .result) (c .args .text .now) (sym (c .in-Some .ensures tt .known)) (c .in-Some .ensures tt .ready .0) (c .load .ensures)
-      ∙ said-out P (c .load .result) (c .args .text .now) m (c .in-rest-load .not-Idle))
+    ∙ said-out P (c .load .result) (c .args .text .now) m (c .in-rest-load .not-Idle))
 
 pub returns-in-Ok : need.returns-in-Ok
 unfolding said-told
@@ -32,4 +33,4 @@ returns-in-Err c =
     let m = c .args .memory .now in
     subst (λ k. Does (stepped m (said (c .args .text .now))) (No k) (c .args .out .now) (c .obey .last .memory) (c .obey .last .out)) (sym (c .number .ensures))
     (does-as _ _ _ _ (said-taken m (c .in-Some .geometry .pages) Idle (c .args .text .now) (sym (c .in-Some .ensures tt .known)) (c .in-Some .ensures tt .ready .0) (c .in-Idle .ensures tt))
-      (c .in-Err .ensures tt))
+    (c .in-Err .ensures tt))

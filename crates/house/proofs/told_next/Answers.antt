@@ -1,4 +1,5 @@
-use mathlib.Core.Path.{_≡_, refl, sym, _∙_, ap}
+-- The phase says what comes next; otherwise it is out of turn.
+use mathlib.Core.Path.{sym, _∙_}
 use Rattle.house.specs.declared.phase.Phase.the-variants.{ShowBoxes, WriteTable, WriteSelectors, WriteHeader, FlushHeader, Committed, Shown}
 use Rattle.house.specs.Machine.{next-told}
 use Rattle.house.proofs.Acts.{does-as, out-does, told-flush, told-done}
@@ -57,4 +58,4 @@ returns-in-rest-load c =
     let P = c .in-Some .geometry .pages in
     out-does m (c .args .out .now) (c .out-of-turn-in-rest-load .result) (c .out-of-turn-in-rest-load .ensures)
     (next-taken m P (c .load .result) (sym (c .in-Some .ensures tt .known)) (c .in-Some .ensures tt .ready .0) (c .load .ensures)
-      ∙ next-out P (c .load .result) m (c .in-rest-load .not-ShowBoxes) (c .in-rest-load .not-WriteTable) (c .in-rest-load .not-WriteSelectors) (c .in-rest-load .not-WriteHeader) (c .in-rest-load .not-FlushHeader) (c .in-rest-load .not-Committed) (c .in-rest-load .not-Shown))
+    ∙ next-out P (c .load .result) m (c .in-rest-load .not-ShowBoxes) (c .in-rest-load .not-WriteTable) (c .in-rest-load .not-WriteSelectors) (c .in-rest-load .not-WriteHeader) (c .in-rest-load .not-FlushHeader) (c .in-rest-load .not-Committed) (c .in-rest-load .not-Shown))

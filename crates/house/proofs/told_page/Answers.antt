@@ -1,4 +1,5 @@
-use mathlib.Core.Path.{_≡_, refl, sym, _∙_, ap}
+-- The phase says which page it is; otherwise it is out of turn.
+use mathlib.Core.Path.{sym, _∙_}
 use native.Mathlib.Omega.{arith}
 use Rattle.house.specs.declared.phase.Phase.the-variants.{ReadHeader, ReadSelectors, ReadDirectory}
 use Rattle.house.specs.Machine.{page-told}
@@ -19,21 +20,21 @@ pub returns-in-ReadHeader : need.returns-in-ReadHeader
 unfolding page-told
 returns-in-ReadHeader c =
     quietly-as _ _ (page-taken (c .args .memory .now) (c .in-Some .geometry .pages) ReadHeader (c .args .page .now) (sym (c .in-Some .ensures tt .known))
-      (page-is (c .args .page .now) (c .if-page-ne-PAGE-LEN .left) (λ i. omega (arith, c .typed .page i))) (c .in-Some .ensures tt .ready .0) (c .in-ReadHeader .ensures tt))
+    (page-is (c .args .page .now) (c .if-page-ne-PAGE-LEN .left) (λ i. omega (arith, c .typed .page i))) (c .in-Some .ensures tt .ready .0) (c .in-ReadHeader .ensures tt))
     (c .header-read .ensures)
 
 pub returns-in-ReadSelectors : need.returns-in-ReadSelectors
 unfolding page-told
 returns-in-ReadSelectors c =
     quietly-as _ _ (page-taken (c .args .memory .now) (c .in-Some .geometry .pages) (ReadSelectors (c .in-ReadSelectors .q)) (c .args .page .now) (sym (c .in-Some .ensures tt .known))
-      (page-is (c .args .page .now) (c .if-page-ne-PAGE-LEN .left) (λ i. omega (arith, c .typed .page i))) (c .in-Some .ensures tt .ready .0) (c .in-ReadSelectors .ensures tt))
+    (page-is (c .args .page .now) (c .if-page-ne-PAGE-LEN .left) (λ i. omega (arith, c .typed .page i))) (c .in-Some .ensures tt .ready .0) (c .in-ReadSelectors .ensures tt))
     (c .selectors-read .ensures)
 
 pub returns-in-ReadDirectory : need.returns-in-ReadDirectory
 unfolding page-told
 returns-in-ReadDirectory c =
     quietly-as _ _ (page-taken (c .args .memory .now) (c .in-Some .geometry .pages) (ReadDirectory (c .in-ReadDirectory .t)) (c .args .page .now) (sym (c .in-Some .ensures tt .known))
-      (page-is (c .args .page .now) (c .if-page-ne-PAGE-LEN .left) (λ i. omega (arith, c .typed .page i))) (c .in-Some .ensures tt .ready .0) (c .in-ReadDirectory .ensures tt))
+    (page-is (c .args .page .now) (c .if-page-ne-PAGE-LEN .left) (λ i. omega (arith, c .typed .page i))) (c .in-Some .ensures tt .ready .0) (c .in-ReadDirectory .ensures tt))
     (c .directory-read .ensures)
 
 pub returns-in-rest-load : need.returns-in-rest-load
@@ -43,4 +44,4 @@ returns-in-rest-load c =
     let P = c .in-Some .geometry .pages in
     out-quietly m (c .out-of-turn-in-rest-load .result) (c .out-of-turn-in-rest-load .ensures)
     (page-taken m P (c .load .result) p (sym (c .in-Some .ensures tt .known)) (page-is p (c .if-page-ne-PAGE-LEN .left) (λ i. omega (arith, c .typed .page i))) (c .in-Some .ensures tt .ready .0) (c .load .ensures)
-      ∙ page-out P (c .load .result) p m (c .in-rest-load .not-ReadHeader) (c .in-rest-load .not-ReadSelectors) (c .in-rest-load .not-ReadDirectory))
+    ∙ page-out P (c .load .result) p m (c .in-rest-load .not-ReadHeader) (c .in-rest-load .not-ReadSelectors) (c .in-rest-load .not-ReadDirectory))

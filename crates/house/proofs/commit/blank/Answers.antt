@@ -1,3 +1,4 @@
+-- Zeros, as the definition has them.
 use mathlib.Core.Path.{_∙_}
 use lib.ListN.{length}
 use Rattle.house.proofs.Writes.{replicate-zeros}

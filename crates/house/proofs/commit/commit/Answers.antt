@@ -1,28 +1,29 @@
-use mathlib.Core.Path.{_≡_, refl, sym, _∙_, ap}
-use Prim.Native.Nat.{ℕ, _+_, _*_, _<_}
-use native.Mathlib.Omega.{arith}
-use Rattle.std.specs.declared.option.Option.{Option}
+-- The page that is found is the first that was touched.
+use mathlib.Core.Path.{refl, sym}
 use Rattle.std.specs.declared.option.Option.the-variants.{Some, None}
-use Rattle.pages.specs.Geometry.{selector-pages, directory-pages}
-use Rattle.pages.specs.Touched.{first-touched}
-use Rattle.house.specs.Memory.{counting-of, coming-of}
+use Rattle.pages.specs.Geometry.{directory-pages}
 use Rattle.house.specs.Machine.{commit}
 use Rattle.house.proofs.Touches.{next-is, next-below}
 use Rattle.house.proofs.commit.commit.Needs as need
 
 pub write-table-requires : need.write-table-requires
-write-table-requires c κs =
-    (c .pre .0, (next-below (c .args .geometry .now .pages) (c .args .memory .now) (c .args .from) (c .selector-words-words .result) (c .directory-pages .result) (c .in-Some .t) (Some (c .in-Some .t))
-        (c .selector-words-words .ensures .is) (c .directory-pages .ensures) (c .in-Some .ensures tt) refl, c .pre .1 .1))
+write-table-requires c κs = (
+  c .pre .0,
+  (
+    next-below (c .args .geometry .now .pages) (c .args .memory .now) (c .args .from) (c .selector-words-words .result) (c .directory-pages .result) (c .in-Some .t) (Some (c .in-Some .t))
+        (c .selector-words-words .ensures .is) (c .directory-pages .ensures) (c .in-Some .ensures tt) refl,
+    c .pre .1 .1,
+  ),
+)
 
 pub returns-in-None : need.returns-in-None
 unfolding commit
 returns-in-None c =
     rw (sym (next-is (c .args .geometry .now .pages) (c .args .memory .now) (c .args .from) (c .selector-words-words .result) (c .directory-pages .result) None
-        (c .selector-words-words .ensures .is) (c .directory-pages .ensures) (c .in-None .ensures tt))) (c .write-selectors .ensures)
+    (c .selector-words-words .ensures .is) (c .directory-pages .ensures) (c .in-None .ensures tt))) (c .write-selectors .ensures)
 
 pub returns-in-Some : need.returns-in-Some
 unfolding commit
 returns-in-Some c =
     rw (sym (next-is (c .args .geometry .now .pages) (c .args .memory .now) (c .args .from) (c .selector-words-words .result) (c .directory-pages .result) (Some (c .in-Some .t))
-        (c .selector-words-words .ensures .is) (c .directory-pages .ensures) (c .in-Some .ensures tt))) (c .write-table .ensures)
+    (c .selector-words-words .ensures .is) (c .directory-pages .ensures) (c .in-Some .ensures tt))) (c .write-table .ensures)

@@ -1,7 +1,8 @@
-use mathlib.Core.Path.{_≡_, refl, sym, _∙_, ap}
+-- A number is shown, or nothing.
+use mathlib.Core.Path.{refl, sym, _∙_, ap}
 use mathlib.Core.List.{_++_}
 use Prim.Native.Nat.{_-_}
-use lib.ListN.{length, drop}
+use lib.ListN.{drop}
 use borrow.Author.Tests.{eq-eqb, ne-eqb}
 use Rattle.model.specs.Mail.{eight, in-bytes}
 use Rattle.pages.proofs.Words.{eight-is}
@@ -22,6 +23,7 @@ unfolding committed in-bytes
 returns c =
     let n = to-show (c .args .memory .now) - 1 in
     let bytes = c .copy-from-slice .ensures .after ∙ c .to-be-bytes .ensures ∙ sym (eight-is n) in
-    rw (ne-eqb (to-show (c .args .memory .now)) 0 (c .if-to-show-eq0 .left))
-    (c .store-2 .ensures ∙ ap (in-phase Shown) (c .count-coming .ensures)
-    , told-shows 8 (eight n) (c .args .out .now) _ refl (ap (λ r. r ++ drop 8 (c .args .out .now)) bytes))
+    rw (ne-eqb (to-show (c .args .memory .now)) 0 (c .if-to-show-eq0 .left)) (
+      c .store-2 .ensures ∙ ap (in-phase Shown) (c .count-coming .ensures),
+      told-shows 8 (eight n) (c .args .out .now) _ refl (ap (λ r. r ++ drop 8 (c .args .out .now)) bytes),
+    )

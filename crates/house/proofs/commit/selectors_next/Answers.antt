@@ -1,7 +1,5 @@
-use mathlib.Core.Path.{_≡_, sym, _∙_, ap}
-use lib.Dec.{ltb}
+-- One more selector page, or the flush.
 use borrow.Author.Tests.{lt-ltb, le-ltb}
-use native.Mathlib.Omega.{arith}
 use Rattle.pages.specs.Geometry.{selector-pages}
 use Rattle.house.specs.Machine.{selectors-next}
 use Rattle.house.proofs.Acts.{told-flush}

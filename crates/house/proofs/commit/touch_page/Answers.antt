@@ -1,3 +1,4 @@
+-- The bit is turned, or has been already.
 use Prim.Native.Nat.{_*_}
 use Rattle.pages.specs.Geometry.{selector-pages}
 use Rattle.house.proofs.Touches.{turned-before, turned-now}

@@ -1,3 +1,4 @@
+-- The two pages that a record may lie on.
 use Rattle.house.proofs.Touches.{record-touched}
 use Rattle.house.proofs.commit.touch_record.Needs as need
 

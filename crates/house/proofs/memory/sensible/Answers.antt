@@ -2,7 +2,7 @@
 use mathlib.Core.Path.{_≡_, sym, _∙_, ap, subst}
 use mathlib.Core.Bool.{false≢true}
 use mathlib.Core.Logic.{inl, inr}
-use Prim.Native.Nat.{ℕ, _*_, _≤_}
+use Prim.Native.Nat.{_*_, _≤_}
 use native.Mathlib.Omega.{arith}
 use lib.Dec.{leb}
 use Rattle.std.proofs.shelf.Tests.{and-from, le-leb}
@@ -35,13 +35,15 @@ pub returns : need.returns
 returns c =
     let m = c .args .memory .now in
     let sized : c .in-Some .geometry .pages ≡ pages-count m = c .in-Some .ensures tt .sized in
-    let fit : Fits m = record
-        { least = subst (λ P. 256 ≤ P) sized (c .in-Some .geometry .least)
-        ; most = subst (λ P. P ≤ 1048576) sized (c .in-Some .geometry .most)
-        ; ready = record
-            { long = c .if-memory-ne-MEMORY-LEN .left
-            ; houses-few = omega arith
-            ; area-known = omega arith
-            ; people-few = omega arith
-            ; boxes-fit = enough _ _ _ (c .directory-words .ensures .some) (c .directory-words .ensures .is ∙ ap (λ P. 64 * directory-pages P) sized) (c .if-boxes-directory-words .left) } } in
+    let fit : Fits m = record {
+      least = subst (λ P. 256 ≤ P) sized (c .in-Some .geometry .least);
+      most = subst (λ P. P ≤ 1048576) sized (c .in-Some .geometry .most);
+      ready = record {
+        long = c .if-memory-ne-MEMORY-LEN .left;
+        houses-few = omega arith;
+        area-known = omega arith;
+        people-few = omega arith;
+        boxes-fit = enough _ _ _ (c .directory-words .ensures .some) (c .directory-words .ensures .is ∙ ap (λ P. 64 * directory-pages P) sized) (c .if-boxes-directory-words .left);
+      };
+    } in
     record { known = sym (fits-sensible m fit); ready = (sized, subst (λ P. Ready P m) (sym sized) (fit .ready)) }

@@ -1,6 +1,7 @@
-use mathlib.Core.Path.{_≡_, refl, sym, _∙_, ap}
-use mathlib.Core.List.{List, [], _∷_}
-use Prim.Native.Nat.{ℕ, _+_, _*_}
+-- The record, the page that it lies on, and the registers.
+use mathlib.Core.Path.{_∙_, ap}
+use mathlib.Core.List.{[], _∷_}
+use Prim.Native.Nat.{_+_, _*_}
 use native.Mathlib.Omega.{arith}
 use Rattle.pages.specs.Words.{patched}
 use Rattle.pages.specs.Geometry.{directory-pages}
@@ -19,6 +20,6 @@ returns c =
     let m = c .args .memory .now in
     let P = c .args .geometry .now .pages in
     let put = box-written m (64 * directory-pages P) (c .directory-words .result) (c .pre .0 .long) (c .directory-words .ensures .is) (c .directory-words .ensures .most) (c .add-box .result) (c .add-box .last .words)
-        (boxes-count m) (c .args .person) (c .args .name .now) (c .pre .1 .0) (c .pre .1 .1 .0) (room-says P 256 m (c .pre .1 .1 .1) .1) (c .add-box .ensures .fits) (c .add-box .ensures .written) in
+    (boxes-count m) (c .args .person) (c .args .name .now) (c .pre .1 .0) (c .pre .1 .1 .0) (room-says P 256 m (c .pre .1 .1 .1) .1) (c .add-box .ensures .fits) (c .add-box .ensures .written) in
     box-registers (c .touch-record .last .memory) (boxes-count m + 1) (weight-of m + 256) 0 (omega arith)
     ∙ ap (λ l. patched (patched (patched l 67 ((boxes-count m + 1) ∷ [])) 70 ((weight-of m + 256) ∷ [])) 6 (0 ∷ [])) (c .touch-record .ensures ∙ ap (touch-record P (box-place (boxes-count m))) put)

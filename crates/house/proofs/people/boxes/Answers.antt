@@ -1,5 +1,5 @@
+-- Only of somebody who is there.
 use mathlib.Core.Path.{refl, ap}
-use lib.Dec.{ltb}
 use Rattle.std.proofs.shelf.Tests.{le-ltb, lt-ltb}
 use Rattle.model.specs.Mail.{pick}
 use Rattle.house.specs.Memory.{people-of}

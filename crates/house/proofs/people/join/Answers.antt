@@ -1,8 +1,6 @@
+-- The refusals in their order, and then the commit of what was added.
 use mathlib.Core.Path.{_≡_, refl, sym, _∙_, ap, subst}
-use mathlib.Core.Bool.{true, false}
-use mathlib.Core.List.{List}
-use Prim.Native.Nat.{ℕ, _+_, _*_, _≤_, _<_}
-use lib.ListN.{length}
+use Prim.Native.Nat.{_*_, _≤_, _<_}
 use native.Mathlib.Omega.{arith}
 use Rattle.std.specs.Options.{isSome}
 use Rattle.pages.specs.Geometry.{directory-pages}
@@ -45,7 +43,7 @@ commit-requires c κs =
     let m = c .args .memory .now in
     let most : 64 * directory-pages P ≤ 197504 = omega (arith, directory-pages-most P) in
     let area : area-of (c .add-person .last .memory) ≡ area-of m = ap area-of (c .add-person .ensures)
-        ∙ person-area P (c .args .name .now) m (64 * directory-pages P) (c .args .geometry .now .most) (c .pre .0 .long) refl most (room-says P 776 m (sym (c .if-not-room .ensures tt)) .1) (c .if-memory-ge-MOST-PEOPLE .left) in
+    ∙ person-area P (c .args .name .now) m (64 * directory-pages P) (c .args .geometry .now .most) (c .pre .0 .long) refl most (room-says P 776 m (sym (c .if-not-room .ensures tt)) .1) (c .if-memory-ge-MOST-PEOPLE .left) in
     (c .add-person .kept .memory ∙ c .pre .0 .long, (subst (λ a. a < 2) (sym area) (c .pre .0 .area-known), c .pre .1 .1))
 
 pub returns : need.returns

@@ -1,3 +1,4 @@
+-- The weight and the records, one after the other.
 use Rattle.house.proofs.Registers.{room-no-weight, room-for-weight}
 use Rattle.house.proofs.people.room.Needs as need
 

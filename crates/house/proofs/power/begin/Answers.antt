@@ -1,4 +1,5 @@
-use mathlib.Core.Path.{_≡_, refl, sym, _∙_, ap}
+-- Each test that fails is one of those that the definition asks for.
+use mathlib.Core.Path.{refl, sym, _∙_, ap}
 use mathlib.Core.List.{[], _∷_}
 use native.Mathlib.Omega.{arith}
 use borrow.Rule.Slice.PartMut.{putMid}
@@ -22,6 +23,7 @@ pub returns : need.returns
 returns c =
     let m = c .args .memory .now in
     let told = c .args .house ∷ c .args .houses ∷ c .args .pages ∷ 0 ∷ [] in
-    quietly-as _ _ (power-taken (c .args .house) (c .args .houses) (c .args .pages) m (c .pre) (omega arith) (omega arith) (sym (c .of .ensures .known) ∙ c .if-is-none .ensures tt))
-    ( ap (λ l. putMid 3 4 l (c .copy-from-slice .last .self)) (c .store .ensures) ∙ ap (putMid 3 4 (in-phase ReadHeader m)) (c .copy-from-slice .ensures .after) ∙ patched-next m 0 (1 ∷ 0 ∷ 0 ∷ []) told (omega arith)
-    , told-read 0 0 refl )
+    quietly-as _ _ (power-taken (c .args .house) (c .args .houses) (c .args .pages) m (c .pre) (omega arith) (omega arith) (sym (c .of .ensures .known) ∙ c .if-is-none .ensures tt)) (
+      ap (λ l. putMid 3 4 l (c .copy-from-slice .last .self)) (c .store .ensures) ∙ ap (putMid 3 4 (in-phase ReadHeader m)) (c .copy-from-slice .ensures .after) ∙ patched-next m 0 (1 ∷ 0 ∷ 0 ∷ []) told (omega arith),
+      told-read 0 0 refl,
+    )

@@ -1,6 +1,6 @@
-use mathlib.Core.Path.{_≡_, refl, sym, _∙_, ap, subst}
-use mathlib.Core.List.{List}
-use Prim.Native.Nat.{ℕ, _+_, _*_, _≤_, _<_}
+-- The page comes into the directory; then there is a next one, or the house is up.
+use mathlib.Core.Path.{_∙_, ap, subst}
+use Prim.Native.Nat.{_+_, _≤_, _<_}
 use native.Mathlib.Omega.{arith}
 use Rattle.pages.specs.Geometry.{directory-pages}
 use Rattle.pages.proofs.Geometry.{directory-pages-most}

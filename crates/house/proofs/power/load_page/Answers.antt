@@ -1,8 +1,8 @@
+-- The page has as many words as the lent part.
 use lib.ListN.{length}
 use native.Mathlib.Omega.{arith}
-use Rattle.pages.specs.Words.{part}
 use Rattle.pages.proofs.Words.{length-part}
-use mathlib.Core.Path.{_≡_, refl, _∙_, ap}
+use mathlib.Core.Path.{refl, _∙_, ap}
 use Rattle.house.proofs.Writes.{lent-part, loaded}
 use Rattle.house.proofs.power.load_page.Needs as need
 

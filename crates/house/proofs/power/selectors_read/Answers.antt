@@ -1,7 +1,7 @@
-use mathlib.Core.Path.{_≡_, refl, sym, _∙_, ap, subst}
+-- The page comes to both selector words; then there is a next one, or the directory.
+use mathlib.Core.Path.{_≡_, _∙_, ap, subst}
 use mathlib.Core.Bool.{_&&_}
-use mathlib.Core.List.{List}
-use Prim.Native.Nat.{ℕ, _+_, _*_, _≤_, _<_}
+use Prim.Native.Nat.{_+_, _*_, _≤_, _<_}
 use lib.Dec.{ltb}
 use Rattle.std.proofs.shelf.Tests.{lt-ltb, and-parts}
 use Rattle.pages.specs.Words.{words-in, patched}
@@ -28,9 +28,10 @@ returns-in-Some c =
     let here : q < selector-pages P = subst (λ n. q < n) (c .selector-pages .ensures) (c .if-q-selector-pages .left) in
     let there = some-test (ltb (area-of m) 2 && ltb (q + 1) (selector-pages P)) _ (c .in-Some .place) (c .in-Some .ensures tt) in
     let both : c .load-page-2 .last .memory ≡ with-selectors q p m = c .load-page-2 .ensures ∙ ap (λ l. patched l (1184 + 64 * q) (words-in 64 p)) (c .load-page .ensures) in
-    quietly-as _ _ (selectors-more P q p m here (and-parts (ltb (area-of m) 2) (ltb (q + 1) (selector-pages P)) there .1))
-    ( c .store .ensures ∙ ap (in-phase (ReadSelectors (q + 1))) both
-    , told-read (selector-place P (area-of m) (q + 1)) (c .in-Some .place) (some-place _ _ (c .in-Some .place) there (c .in-Some .ensures tt)) )
+    quietly-as _ _ (selectors-more P q p m here (and-parts (ltb (area-of m) 2) (ltb (q + 1) (selector-pages P)) there .1)) (
+      c .store .ensures ∙ ap (in-phase (ReadSelectors (q + 1))) both,
+      told-read (selector-place P (area-of m) (q + 1)) (c .in-Some .place) (some-place _ _ (c .in-Some .place) there (c .in-Some .ensures tt)),
+    )
 
 pub returns-in-None : need.returns-in-None
 returns-in-None c =

@@ -1,3 +1,4 @@
+-- The three words that are written are those of the phase.
 use mathlib.Core.Path.{ap, _∙_}
 use Rattle.pages.specs.Words.{patched}
 use Rattle.house.proofs.Writes.{three-set}

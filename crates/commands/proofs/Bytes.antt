@@ -1,12 +1,12 @@
 -- Lists of bytes: the parts of one are lists of bytes too, and so is what a slice of bytes holds.
-use mathlib.Core.Path.{_≡_, refl, _∙_}
-use mathlib.Core.Bool.{Bool, true, false, _&&_}
+use mathlib.Core.Path.{_≡_, refl}
+use mathlib.Core.Bool.{true}
 use mathlib.Core.List.{List, [], _∷_, _++_}
-use Prim.Native.Nat.{ℕ, zero, suc, _+_, _<_}
+use Prim.Native.Nat.{ℕ, zero, suc, _+_}
 use mir.Val.{Fits}
 use mir.Syntax.{w8}
 use lib.Dec.{ltb}
-use lib.ListN.{length, getD, take}
+use lib.ListN.{getD, take}
 use Rattle.std.proofs.shelf.Tests.{and-parts, and-from, lt-ltb}
 use Rattle.model.specs.Mail.{all-bytes}
 

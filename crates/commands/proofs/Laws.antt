@@ -1,25 +1,25 @@
 -- The readers of the definition, as the code meets them: what each answers in each case.
 use mathlib.Core.Path.{_≡_, refl, sym, ap, _∙_}
-use mathlib.Core.Bool.{Bool, true, false, _&&_}
+use mathlib.Core.Bool.{true, false}
 use mathlib.Core.List.{List, [], _∷_, _++_}
 use Prim.Native.Nat.{ℕ, zero, suc, _+_, _-_, _*_, _≤_, _<_}
 use native.Mathlib.Numerals.{sub-one}
 use mathlib.Core.Logic.{_⊎_, inl, inr}
 use native.Mathlib.Omega.{arith}
 use denote.Ref.{RefT}
-use lib.Dec.{eqb, ltb, leb}
+use lib.Dec.{eqb, leb}
 use lib.ListN.{length, getD, take, drop}
 use Rattle.std.specs.declared.option.Option.{Option}
 use Rattle.std.specs.declared.option.Option.the-variants.{Some, None}
 use Rattle.std.specs.Options.{Cases}
-use Rattle.std.proofs.shelf.Tests.{and-parts, and-from, lt-leb, le-leb, eqb-true, eqb-false}
+use Rattle.std.proofs.shelf.Tests.{lt-leb, le-leb, eqb-true, eqb-false}
 use Rattle.std.proofs.shelf.Lists.{length-take-le, getD-past}
-use Rattle.model.specs.Mail.{pick, all-bytes, eight, with-length}
+use Rattle.model.specs.Mail.{all-bytes, eight, with-length}
 use Rattle.model.specs.Promise.{from-bytes}
 use Rattle.commands.specs.Lent.{lent-and-rest, left-after}
 use Rattle.commands.specs.Reader.{Reader, first, read-number, read-counted, read-name, read-letter, given, go-on, made, by-kind, nothing, only, so-many, listed, test-kinds, read-test, command-kinds, read-command, all-used, command-of}
 use Rattle.commands.proofs.Bytes.{all-bytes-take, all-bytes-parts}
-use Rattle.commands.proofs.Readers.{Reads-spelling, nothing-read, same-some}
+use Rattle.commands.proofs.Readers.{nothing-read, same-some}
 use Rattle.commands.proofs.Numbers.{counted-reads}
 
 pub first-short : (n : ℕ) (bs : List ℕ) → length bs < n → first n bs ≡ None

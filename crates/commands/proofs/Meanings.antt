@@ -14,7 +14,7 @@ use Rattle.model.specs.House.{Command, rules, find, rules-spelled, rule-fits, t
 use Rattle.commands.specs.declared.Command.{Command as Lent}
 use Rattle.commands.specs.declared.Command.the-variants.{Rules, Find}
 use Rattle.commands.specs.Meaning.{meaning, Answers}
-use Rattle.commands.specs.Reader.{Reader, no-more, whole, read-rules, read-test}
+use Rattle.commands.specs.Reader.{no-more, whole, read-rules, read-test}
 use Rattle.commands.proofs.Readers.{nothing-read, same-some, whole-was-spelled}
 use Rattle.commands.proofs.Spellings.{rules-reads, test-reads}
 

@@ -1,20 +1,19 @@
 -- Numbers of eight bytes, and bytes and lists with their count before them, as they are spelled and read.
 use mathlib.Core.Path.{_≡_, refl, sym, ap, _∙_}
-use mathlib.Core.Bool.{Bool, true, false, _&&_}
+use mathlib.Core.Bool.{Bool, true, _&&_}
 use mathlib.Core.List.{List, [], _∷_, _++_, append-assoc, append-nil}
-use Prim.Native.Nat.{ℕ, zero, suc, _+_, _*_, _/_, _%_, _^_, _≤_, _<_}
+use Prim.Native.Nat.{ℕ, zero, suc, _+_, _*_, _/_, _%_, _^_, _<_}
 use native.Mathlib.Omega.{arith}
-use native.Mathlib.Nat.{pow-succ', mul-assoc, mul-comm, add-suc, zero-add}
-use lib.Dec.{eqb, ltb, leb}
-use lib.ListN.{length, getD, take, drop}
-use Rattle.std.specs.declared.option.Option.{Option}
-use Rattle.std.specs.declared.option.Option.the-variants.{Some, None}
+use native.Mathlib.Nat.{pow-succ', mul-assoc, mul-comm, zero-add}
+use lib.Dec.{ltb, leb}
+use lib.ListN.{length, take, drop}
+use Rattle.std.specs.declared.option.Option.the-variants.{Some}
 use Rattle.std.proofs.shelf.Tests.{and-parts, and-from, ltb-true, lt-ltb, leb-true, le-leb}
 use Rattle.std.proofs.shelf.Lists.{take-append-drop, length-take-le, take-at, drop-at, length-append}
-use Rattle.model.specs.Mail.{pick, every, flat, in-bytes, eight, with-length, all-bytes}
+use Rattle.model.specs.Mail.{every, flat, in-bytes, eight, with-length, all-bytes}
 use Rattle.model.specs.House.{number-fits}
 use Rattle.model.specs.Promise.{from-bytes}
-use Rattle.commands.specs.Reader.{Reader, given, nothing, go-on, then, made, pair, only, so-many, by-kind, first, read-number, read-counted, listed}
+use Rattle.commands.specs.Reader.{Reader, only, so-many, first, read-number, read-counted, listed}
 use Rattle.commands.proofs.Readers.{Reads-spelling, went-on, made-parts, only-parts, taken, so-many-was-spelled, so-many-is-read}
 
 -- digits of a number, and the number of digits
@@ -88,31 +87,35 @@ first-is-read n v rest h =
 pub number-reads : Reads-spelling read-number eight number-fits
 unfolding read-number
 number-reads = record {
-    was-spelled = λ bs v rest e.
-        let m = made-parts (from-bytes 0) (only all-bytes (first 8)) bs v rest e in
-        let o = only-parts all-bytes (first 8) bs (m .0) rest (m .1) in
-        let f = first-parts 8 bs (m .0) rest (o .0) in
-        (ap (λ x. eight x ++ rest) (sym (m .2)) ∙ ap (λ x. x ++ rest) (eight-of-number (m .0) (f .1) (o .1)) ∙ f .0,
-         ap number-fits (sym (m .2)) ∙ number-of-eight-fits (m .0) (f .1) (o .1));
-    is-read = λ v rest t.
-        let l : length (eight v) ≡ 8 = length-in-bytes 8 v [] in
-        let f : first 8 (eight v ++ rest) ≡ Some (eight v, rest) = first-is-read 8 (eight v) rest l in
-        let a : all-bytes (eight v) ≡ true = bytes-of-number 8 v [] refl in
-        rw (f, a, number-of-eight v t) }
+  was-spelled = λ bs v rest e.
+      let m = made-parts (from-bytes 0) (only all-bytes (first 8)) bs v rest e in
+      let o = only-parts all-bytes (first 8) bs (m .0) rest (m .1) in
+      let f = first-parts 8 bs (m .0) rest (o .0) in (
+        ap (λ x. eight x ++ rest) (sym (m .2)) ∙ ap (λ x. x ++ rest) (eight-of-number (m .0) (f .1) (o .1)) ∙ f .0,
+        ap number-fits (sym (m .2)) ∙ number-of-eight-fits (m .0) (f .1) (o .1),
+      );
+  is-read = λ v rest t.
+      let l : length (eight v) ≡ 8 = length-in-bytes 8 v [] in
+      let f : first 8 (eight v ++ rest) ≡ Some (eight v, rest) = first-is-read 8 (eight v) rest l in
+      let a : all-bytes (eight v) ≡ true = bytes-of-number 8 v [] refl in
+      rw (f, a, number-of-eight v t);
+}
 
 -- bytes with their count before them
 pub counted-reads : Reads-spelling read-counted with-length (λ bs. number-fits (length bs))
 unfolding read-counted
 counted-reads = record {
-    was-spelled = λ bs v rest e.
-        let w = went-on (read-number bs) first (v, rest) e in
-        let n = number-reads .was-spelled bs (w .0 .0) (w .0 .1) (w .1) in
-        let f = first-parts (w .0 .0) (w .0 .1) v rest (w .2) in
-        (append-assoc (eight (length v)) v rest ∙ ap (λ x. eight x ++ (v ++ rest)) (f .1) ∙ ap (λ x. eight (w .0 .0) ++ x) (f .0) ∙ n .0,
-         ap number-fits (f .1) ∙ n .1);
-    is-read = λ v rest t.
-        let n : read-number (with-length v ++ rest) ≡ Some (length v, v ++ rest) = rw append-assoc (number-reads .is-read (length v) (v ++ rest) t) in
-        rw (n, first-is-read (length v) v rest refl) }
+  was-spelled = λ bs v rest e.
+      let w = went-on (read-number bs) first (v, rest) e in
+      let n = number-reads .was-spelled bs (w .0 .0) (w .0 .1) (w .1) in
+      let f = first-parts (w .0 .0) (w .0 .1) v rest (w .2) in (
+        append-assoc (eight (length v)) v rest ∙ ap (λ x. eight x ++ (v ++ rest)) (f .1) ∙ ap (λ x. eight (w .0 .0) ++ x) (f .0) ∙ n .0,
+        ap number-fits (f .1) ∙ n .1,
+      );
+  is-read = λ v rest t.
+      let n : read-number (with-length v ++ rest) ≡ Some (length v, v ++ rest) = rw append-assoc (number-reads .is-read (length v) (v ++ rest) t) in
+      rw (n, first-is-read (length v) v rest refl);
+}
 
 -- a list with its count before it
 pub listed-reads :
@@ -120,16 +123,18 @@ pub listed-reads :
     Reads-spelling (listed most r) (λ vs. eight (length vs) ++ flat s vs) (λ vs. leb (length vs) most && every g vs)
 unfolding listed
 listed-reads {r = r} {s = s} {g = g} reads most small = record {
-    was-spelled = λ bs vs rest e.
-        let w = went-on (only (λ n. leb n most) read-number bs) (so-many r) (vs, rest) e in
-        let o = only-parts (λ n. leb n most) read-number bs (w .0 .0) (w .0 .1) (w .1) in
-        let n = number-reads .was-spelled bs (w .0 .0) (w .0 .1) (o .0) in
-        let m = so-many-was-spelled reads (w .0 .0) (w .0 .1) vs rest (w .2) in
-        (append-assoc (eight (length vs)) (flat s vs) rest ∙ ap (λ x. eight x ++ (flat s vs ++ rest)) (m .2) ∙ ap (λ x. eight (w .0 .0) ++ x) (m .0) ∙ n .0,
-         and-from (leb (length vs) most) (every g vs) (ap (λ x. leb x most) (m .2) ∙ o .1) (m .1));
-    is-read = λ vs rest t.
-        let ts = and-parts (leb (length vs) most) (every g vs) t in
-        let le = leb-true (length vs) most (ts .0) in
-        let n : read-number ((eight (length vs) ++ flat s vs) ++ rest) ≡ Some (length vs, flat s vs ++ rest) =
-            rw append-assoc (number-reads .is-read (length vs) (flat s vs ++ rest) (lt-ltb (length vs) 18446744073709551616 (omega arith))) in
-        rw (n, ts .0, so-many-is-read reads vs rest (ts .1)) }
+  was-spelled = λ bs vs rest e.
+      let w = went-on (only (λ n. leb n most) read-number bs) (so-many r) (vs, rest) e in
+      let o = only-parts (λ n. leb n most) read-number bs (w .0 .0) (w .0 .1) (w .1) in
+      let n = number-reads .was-spelled bs (w .0 .0) (w .0 .1) (o .0) in
+      let m = so-many-was-spelled reads (w .0 .0) (w .0 .1) vs rest (w .2) in (
+        append-assoc (eight (length vs)) (flat s vs) rest ∙ ap (λ x. eight x ++ (flat s vs ++ rest)) (m .2) ∙ ap (λ x. eight (w .0 .0) ++ x) (m .0) ∙ n .0,
+        and-from (leb (length vs) most) (every g vs) (ap (λ x. leb x most) (m .2) ∙ o .1) (m .1),
+      );
+  is-read = λ vs rest t.
+      let ts = and-parts (leb (length vs) most) (every g vs) t in
+      let le = leb-true (length vs) most (ts .0) in
+      let n : read-number ((eight (length vs) ++ flat s vs) ++ rest) ≡ Some (length vs, flat s vs ++ rest) =
+      rw append-assoc (number-reads .is-read (length vs) (flat s vs ++ rest) (lt-ltb (length vs) 18446744073709551616 (omega arith))) in
+      rw (n, ts .0, so-many-is-read reads vs rest (ts .1));
+}

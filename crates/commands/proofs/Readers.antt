@@ -2,15 +2,14 @@
 use mathlib.Core.Path.{_≡_, refl, sym, ap, _∙_}
 use mathlib.Core.Bool.{Bool, true, false, _&&_}
 use mathlib.Core.List.{List, [], _∷_, _++_, append-assoc, append-nil}
-use Prim.Native.Nat.{ℕ, zero, suc, _≤_, _<_}
+use Prim.Native.Nat.{ℕ, zero, suc, _+_}
 use native.Mathlib.Omega.{arith}
-use lib.Dec.{eqb, ltb, leb}
-use lib.ListN.{length, getD, take, drop}
+use lib.ListN.{length, getD}
 use Rattle.std.specs.declared.option.Option.{Option}
 use Rattle.std.specs.declared.option.Option.the-variants.{Some, None}
 use Rattle.std.proofs.shelf.Tests.{and-parts, and-from}
 use Rattle.model.specs.Mail.{pick, every, flat}
-use Rattle.commands.specs.Reader.{Reader, given, nothing, go-on, then, made, pair, only, so-many, by-kind, no-more, all-used, whole}
+use Rattle.commands.specs.Reader.{Reader, given, nothing, go-on, made, pair, only, so-many, by-kind, no-more, all-used, whole}
 
 pub record Reads-spelling {A : Type 0} (r : Reader A) (spell : A → List ℕ) (fit : A → Bool) : Type 0 where
   pub was-spelled : (bs : List ℕ) (v : A) (rest : List ℕ) → r bs ≡ Some (v, rest) → (spell v ++ rest ≡ bs) × (fit v ≡ true)
@@ -64,6 +63,29 @@ given-was-spelled a spell fit front same fits bs v rest e =
 pub nothing-read : {A : Type 0} {P : Type 0} (q : A) → _≡_ {A = Option A} None (Some q) → P
 nothing-read q e = absurd (let z : _≡_ {A = ℕ} 0 1 = cc in omega arith)
 
+-- readers by the first byte, from a number on: each reads what is spelled with that number before it
+infixr 5 _&_
+pub data Kinds {A : Type 0} (spell : A → List ℕ) (fit : A → Bool) : ℕ → List (Reader A) → Type 0 where
+  no-more-kinds : {k : ℕ} → Kinds spell fit k []
+  _&_ :
+      {k : ℕ} {r : Reader A} {rs : List (Reader A)} →
+      ((bs : List ℕ) (v : A) (rest : List ℕ) → r bs ≡ Some (v, rest) → (spell v ++ rest ≡ k ∷ bs) × (fit v ≡ true)) →
+      Kinds spell fit (suc k) rs → Kinds spell fit k (r ∷ rs)
+
+kind-was-spelled :
+    {A : Type 0} {spell : A → List ℕ} {fit : A → Bool} {k : ℕ} {rs : List (Reader A)} → Kinds spell fit k rs →
+    (j : ℕ) (bs : List ℕ) (v : A) (rest : List ℕ) → getD rs j nothing bs ≡ Some (v, rest) → (spell v ++ rest ≡ (k + j) ∷ bs) × (fit v ≡ true)
+kind-was-spelled no-more-kinds j bs v rest e = nothing-read (v, rest) e
+kind-was-spelled {k = k} (h & hs) zero bs v rest e = let z : k + 0 ≡ k = omega arith in rw z (h bs v rest e)
+kind-was-spelled {k = k} (h & hs) (suc j) bs v rest e = let z : k + suc j ≡ suc k + j = omega arith in rw z (kind-was-spelled hs j bs v rest e)
+
+pub by-kind-was-spelled :
+    {A : Type 0} {spell : A → List ℕ} {fit : A → Bool} {rs : List (Reader A)} → Kinds spell fit 0 rs →
+    (bs : List ℕ) (v : A) (rest : List ℕ) → by-kind rs bs ≡ Some (v, rest) → (spell v ++ rest ≡ bs) × (fit v ≡ true)
+unfolding by-kind
+by-kind-was-spelled hs [] v rest e = nothing-read (v, rest) e
+by-kind-was-spelled hs (j ∷ bs) v rest e = let z : 0 + j ≡ j = omega arith in rw z at (kind-was-spelled hs j bs v rest e)
+
 module _ {A B : Type 0} {r : Reader A} {s : A → List ℕ} {g : A → Bool} (reads : Reads-spelling r s g) where
   pub made-was-spelled :
       (f : A → B) (spell : B → List ℕ) (fit : B → Bool) (front : List ℕ) →
@@ -71,9 +93,10 @@ module _ {A B : Type 0} {r : Reader A} {s : A → List ℕ} {g : A → Bool} (re
       (bs : List ℕ) (v : B) (rest : List ℕ) → made f r bs ≡ Some (v, rest) → (spell v ++ rest ≡ front ++ bs) × (fit v ≡ true)
   made-was-spelled f spell fit front same fits bs v rest e =
       let m = made-parts f r bs v rest e in
-      let h = reads .was-spelled bs (m .0) rest (m .1) in
-      (ap (λ x. spell x ++ rest) (sym (m .2)) ∙ ap (λ x. x ++ rest) (same (m .0) (h .1)) ∙ append-assoc front (s (m .0)) rest ∙ ap (λ x. front ++ x) (h .0),
-       ap fit (sym (m .2)) ∙ fits (m .0) (h .1))
+      let h = reads .was-spelled bs (m .0) rest (m .1) in (
+        ap (λ x. spell x ++ rest) (sym (m .2)) ∙ ap (λ x. x ++ rest) (same (m .0) (h .1)) ∙ append-assoc front (s (m .0)) rest ∙ ap (λ x. front ++ x) (h .0),
+        ap fit (sym (m .2)) ∙ fits (m .0) (h .1),
+      )
 
   pub made-is-read :
       (f : A → B) (a : A) (bs rest : List ℕ) → bs ≡ s a → g a ≡ true → made f r (bs ++ rest) ≡ Some (f a, rest)
@@ -84,24 +107,26 @@ module _ {A B : Type 0} {r : Reader A} {s : A → List ℕ} {g : A → Bool} (re
     {r₁ : Reader B} {s₁ : B → List ℕ} {g₁ : B → Bool} (reads₁ : Reads-spelling r₁ s₁ g₁) where
   pub pair-reads : Reads-spelling (pair r r₁) (λ p. s (p .0) ++ s₁ (p .1)) (λ p. g (p .0) && g₁ (p .1))
   pair-reads = record {
-      was-spelled = λ bs v rest e.
-          let w = pair-parts r r₁ bs v rest e in
-          let h = reads .was-spelled bs (v .0) (w .0) (w .1) in
-          let k = reads₁ .was-spelled (w .0) (v .1) rest (w .2) in
-          (append-assoc (s (v .0)) (s₁ (v .1)) rest ∙ ap (λ x. s (v .0) ++ x) (k .0) ∙ h .0, and-from (g (v .0)) (g₁ (v .1)) (h .1) (k .1));
-      is-read = λ v rest t.
-          let ts = and-parts (g (v .0)) (g₁ (v .1)) t in
-          ap (λ x. pair r r₁ x) (append-assoc (s (v .0)) (s₁ (v .1)) rest)
-          ∙ ap (λ o. go-on o (λ a. made (λ b. (a, b)) r₁)) (reads .is-read (v .0) (s₁ (v .1) ++ rest) (ts .0))
-          ∙ made-is-read reads₁ (λ b. (v .0, b)) (v .1) (s₁ (v .1)) rest refl (ts .1) }
+    was-spelled = λ bs v rest e.
+        let w = pair-parts r r₁ bs v rest e in
+        let h = reads .was-spelled bs (v .0) (w .0) (w .1) in
+        let k = reads₁ .was-spelled (w .0) (v .1) rest (w .2) in
+        (append-assoc (s (v .0)) (s₁ (v .1)) rest ∙ ap (λ x. s (v .0) ++ x) (k .0) ∙ h .0, and-from (g (v .0)) (g₁ (v .1)) (h .1) (k .1));
+    is-read = λ v rest t.
+        let ts = and-parts (g (v .0)) (g₁ (v .1)) t in
+        ap (λ x. pair r r₁ x) (append-assoc (s (v .0)) (s₁ (v .1)) rest)
+        ∙ ap (λ o. go-on o (λ a. made (λ b. (a, b)) r₁)) (reads .is-read (v .0) (s₁ (v .1) ++ rest) (ts .0))
+        ∙ made-is-read reads₁ (λ b. (v .0, b)) (v .1) (s₁ (v .1)) rest refl (ts .1);
+  }
 
 module _ {A : Type 0} {r : Reader A} {s : A → List ℕ} {g : A → Bool} (reads : Reads-spelling r s g) where
   -- a reader that takes only some values, all of which fit
   pub only-reads : (p : A → Bool) → ((v : A) → p v ≡ true → g v ≡ true) → Reads-spelling (only p r) s p
   only-reads p fits = record {
-      was-spelled = λ bs v rest e.
-          let w = only-parts p r bs v rest e in (reads .was-spelled bs v rest (w .0) .0, w .1);
-      is-read = λ v rest t. rw (reads .is-read v rest (fits v t), t) }
+    was-spelled = λ bs v rest e.
+        let w = only-parts p r bs v rest e in (reads .was-spelled bs v rest (w .0) .0, w .1);
+    is-read = λ v rest t. rw (reads .is-read v rest (fits v t), t);
+  }
 
   pub so-many-was-spelled :
       (n : ℕ) (bs : List ℕ) (vs : List A) (rest : List ℕ) → so-many r n bs ≡ Some (vs, rest) →
@@ -114,10 +139,11 @@ module _ {A : Type 0} {r : Reader A} {s : A → List ℕ} {g : A → Bool} (read
       let m = made-parts (λ p. p .0 ∷ p .1) (pair r (so-many r n)) bs vs rest e in
       let w = pair-parts r (so-many r n) bs (m .0) rest (m .1) in
       let h = reads .was-spelled bs (m .0 .0) (w .0) (w .1) in
-      let k = so-many-was-spelled n (w .0) (m .0 .1) rest (w .2) in
-      (ap (λ x. flat s x ++ rest) (sym (m .2)) ∙ append-assoc (s (m .0 .0)) (flat s (m .0 .1)) rest ∙ ap (λ x. s (m .0 .0) ++ x) (k .0) ∙ h .0,
-       ap (every g) (sym (m .2)) ∙ and-from (g (m .0 .0)) (every g (m .0 .1)) (h .1) (k .1),
-       ap length (sym (m .2)) ∙ ap suc (k .2))
+      let k = so-many-was-spelled n (w .0) (m .0 .1) rest (w .2) in (
+        ap (λ x. flat s x ++ rest) (sym (m .2)) ∙ append-assoc (s (m .0 .0)) (flat s (m .0 .1)) rest ∙ ap (λ x. s (m .0 .0) ++ x) (k .0) ∙ h .0,
+        ap (every g) (sym (m .2)) ∙ and-from (g (m .0 .0)) (every g (m .0 .1)) (h .1) (k .1),
+        ap length (sym (m .2)) ∙ ap suc (k .2),
+      )
 
   pub so-many-is-read :
       (vs : List A) (rest : List ℕ) → every g vs ≡ true → so-many r (length vs) (flat s vs ++ rest) ≡ Some (vs, rest)

@@ -1,5 +1,5 @@
 -- How a command is read off bytes. A reader takes from the front of the bytes a value and leaves the rest, or takes nothing at all.
-use mathlib.Core.Bool.{Bool, true, false, _&&_}
+use mathlib.Core.Bool.{Bool, _&&_}
 use mathlib.Core.List.{List, [], _∷_}
 use Prim.Native.Nat.{ℕ, zero, suc}
 use lib.Dec.{eqb, ltb, leb}

@@ -15,21 +15,34 @@ use crate::rules::after_test;
 
 // The first byte of a command.
 const JOIN: u8 = 1;
+
 const HAND_IN: u8 = 2;
+
 const BOXES: u8 = 3;
+
 const NEW_BOX: u8 = 4;
+
 const DROP_BOX: u8 = 5;
+
 const LIST: u8 = 6;
+
 const GET: u8 = 7;
+
 const SET_MARK: u8 = 8;
+
 const TO_BOX: u8 = 9;
+
 const CLEAR: u8 = 10;
+
 const RULES: u8 = 11;
+
 const FIND: u8 = 12;
+
 const PUSH: u8 = 13;
 
 // How many letters may be listed, and how many bytes may be got, by one command.
 const MOST_LISTED: u64 = 1_000;
+
 const MOST_BYTES: u64 = 65_536;
 
 // The command, if nothing follows it.
@@ -53,7 +66,11 @@ fn list_count(bytes: &[u8]) -> Option<(u64, &[u8])>
     ensures { λ r. ⌜ and-rest r ≡ only (λ k. leb 1 k && leb k 1000) read-number (now (bytes .entry)) ⌝ }
 {
     let (count, rest) = parts::number(bytes)?;
-    if 1 <= count && count <= MOST_LISTED { Some((count, rest)) } else { None }
+    if 1 <= count && count <= MOST_LISTED {
+        Some((count, rest))
+    } else {
+        None
+    }
 }
 
 fn join(bytes: &[u8]) -> Option<Command<'_>>
@@ -69,7 +86,14 @@ fn hand_in(bytes: &[u8]) -> Option<Command<'_>>
     let (house, rest) = parts::house(bytes)?;
     let (person, rest) = parts::person(rest)?;
     let (letter, rest) = parts::letter(rest)?;
-    complete(Command::HandIn { house, person, letter }, rest)
+    complete(
+        Command::HandIn {
+            house,
+            person,
+            letter,
+        },
+        rest,
+    )
 }
 
 fn boxes(bytes: &[u8]) -> Option<Command<'_>>
@@ -99,7 +123,15 @@ fn list(bytes: &[u8]) -> Option<Command<'_>>
     let ((person, mailbox), rest) = mailbox(bytes)?;
     let (from, rest) = parts::number(rest)?;
     let (count, rest) = list_count(rest)?;
-    complete(Command::List { person, mailbox, from, count }, rest)
+    complete(
+        Command::List {
+            person,
+            mailbox,
+            from,
+            count,
+        },
+        rest,
+    )
 }
 
 fn get(bytes: &[u8]) -> Option<Command<'_>>
@@ -109,7 +141,16 @@ fn get(bytes: &[u8]) -> Option<Command<'_>>
     let (number, rest) = parts::number(rest)?;
     let (from, rest) = parts::number(rest)?;
     let (count, rest) = parts::number_up_to(rest, MOST_BYTES)?;
-    complete(Command::Get { person, mailbox, number, from, count }, rest)
+    complete(
+        Command::Get {
+            person,
+            mailbox,
+            number,
+            from,
+            count,
+        },
+        rest,
+    )
 }
 
 fn set_mark(bytes: &[u8]) -> Option<Command<'_>>
@@ -119,7 +160,16 @@ fn set_mark(bytes: &[u8]) -> Option<Command<'_>>
     let (number, rest) = parts::number(rest)?;
     let (mark, rest) = parts::mark(rest)?;
     let (on, rest) = parts::flag(rest)?;
-    complete(Command::SetMark { person, mailbox, number, mark, on }, rest)
+    complete(
+        Command::SetMark {
+            person,
+            mailbox,
+            number,
+            mark,
+            on,
+        },
+        rest,
+    )
 }
 
 fn to_box(bytes: &[u8]) -> Option<Command<'_>>
@@ -128,7 +178,15 @@ fn to_box(bytes: &[u8]) -> Option<Command<'_>>
     let ((person, mailbox), rest) = mailbox(bytes)?;
     let (number, rest) = parts::number(rest)?;
     let (other, rest) = parts::name(rest)?;
-    complete(Command::ToBox { person, mailbox, number, other }, rest)
+    complete(
+        Command::ToBox {
+            person,
+            mailbox,
+            number,
+            other,
+        },
+        rest,
+    )
 }
 
 fn clear(bytes: &[u8]) -> Option<Command<'_>>
@@ -138,6 +196,7 @@ fn clear(bytes: &[u8]) -> Option<Command<'_>>
     complete(Command::Clear { person, mailbox }, rest)
 }
 
+// The rules stand behind the person, up to the end of the text.
 fn rule_set(bytes: &[u8]) -> Option<Command<'_>>
     ensures { λ r. ⌜ Answers r (whole read-rule-set (now (bytes .entry))) ⌝ }
 {
@@ -145,11 +204,19 @@ fn rule_set(bytes: &[u8]) -> Option<Command<'_>>
     complete(Command::Rules { person, rules }, after_rules(rules)?)
 }
 
+// The test stands behind the box, up to the end of the text.
 fn find(bytes: &[u8]) -> Option<Command<'_>>
     ensures { λ r. ⌜ Answers r (whole read-find (now (bytes .entry))) ⌝ }
 {
     let ((person, mailbox), test) = mailbox(bytes)?;
-    complete(Command::Find { person, mailbox, test }, after_test(test, DEEPEST_TEST)?)
+    complete(
+        Command::Find {
+            person,
+            mailbox,
+            test,
+        },
+        after_test(test, DEEPEST_TEST)?,
+    )
 }
 
 fn push(bytes: &[u8]) -> Option<Command<'_>>
@@ -159,6 +226,7 @@ fn push(bytes: &[u8]) -> Option<Command<'_>>
     complete(Command::Push { house }, rest)
 }
 
+// Any command, if all of the text spells it.
 pub fn command(text: &[u8]) -> Option<Command<'_>>
     ensures { λ r. ⌜ Answers r (command-of (now (text .entry))) ⌝ }
 {

@@ -13,19 +13,67 @@ mod rules;
 // and are known to be so.
 #[derive(Clone, Copy)]
 pub enum Command<'a> {
-    Join { name: &'a [u8] },
-    HandIn { house: u64, person: u64, letter: &'a [u8] },
-    Boxes { person: u64 },
-    NewBox { person: u64, name: &'a [u8] },
-    DropBox { person: u64, name: &'a [u8] },
-    List { person: u64, mailbox: &'a [u8], from: u64, count: u64 },
-    Get { person: u64, mailbox: &'a [u8], number: u64, from: u64, count: u64 },
-    SetMark { person: u64, mailbox: &'a [u8], number: u64, mark: u8, on: bool },
-    ToBox { person: u64, mailbox: &'a [u8], number: u64, other: &'a [u8] },
-    Clear { person: u64, mailbox: &'a [u8] },
-    Rules { person: u64, rules: &'a [u8] },
-    Find { person: u64, mailbox: &'a [u8], test: &'a [u8] },
-    Push { house: u64 },
+    Join {
+        name: &'a [u8],
+    },
+    HandIn {
+        house: u64,
+        person: u64,
+        letter: &'a [u8],
+    },
+    Boxes {
+        person: u64,
+    },
+    NewBox {
+        person: u64,
+        name: &'a [u8],
+    },
+    DropBox {
+        person: u64,
+        name: &'a [u8],
+    },
+    List {
+        person: u64,
+        mailbox: &'a [u8],
+        from: u64,
+        count: u64,
+    },
+    Get {
+        person: u64,
+        mailbox: &'a [u8],
+        number: u64,
+        from: u64,
+        count: u64,
+    },
+    SetMark {
+        person: u64,
+        mailbox: &'a [u8],
+        number: u64,
+        mark: u8,
+        on: bool,
+    },
+    ToBox {
+        person: u64,
+        mailbox: &'a [u8],
+        number: u64,
+        other: &'a [u8],
+    },
+    Clear {
+        person: u64,
+        mailbox: &'a [u8],
+    },
+    Rules {
+        person: u64,
+        rules: &'a [u8],
+    },
+    Find {
+        person: u64,
+        mailbox: &'a [u8],
+        test: &'a [u8],
+    },
+    Push {
+        house: u64,
+    },
 }
 
 // The command that a text spells, if all of it spells one: a command is read just where it is said, and no two are spelled alike.
@@ -36,3 +84,6 @@ pub fn read(text: &[u8]) -> Option<Command<'_>>
 {
     kinds::command(text)
 }
+
+#[cfg(test)]
+mod tests;

@@ -11,6 +11,7 @@ use crate::parts::number_up_to;
 use crate::parts::person;
 
 const MOST_RULES: u64 = 32;
+
 const MOST_ACTIONS: u64 = 8;
 
 // A test may hold tests, three more deep.
@@ -18,20 +19,32 @@ pub const DEEPEST_TEST: u8 = 4;
 
 // The first byte of a test.
 const ALWAYS: u8 = 0;
+
 const FIELD_HAS: u8 = 1;
+
 const FIELD_IS: u8 = 2;
+
 const LONGER: u8 = 3;
+
 const MARKED: u8 = 4;
+
 const NEITHER: u8 = 5;
+
 const BOTH: u8 = 6;
+
 const EITHER: u8 = 7;
 
 // The first byte of an action.
 const KEEP: u8 = 0;
+
 const FILE: u8 = 1;
+
 const AWAY: u8 = 2;
+
 const ON_TO: u8 = 3;
+
 const MARK: u8 = 4;
+
 const HALT: u8 = 5;
 
 // The name and the value that a test of a field has.

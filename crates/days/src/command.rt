@@ -21,7 +21,7 @@ pub enum Kind {
 }
 
 // The kinds that a house knows; another command is refused as not known yet.
-pub const KNOWN: &[Kind] = &[];
+pub const KNOWN: &[Kind] = &[Kind::Join, Kind::Boxes, Kind::NewBox];
 
 impl Kind {
     pub(super) fn is_known(self) -> bool {

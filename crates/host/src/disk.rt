@@ -1,147 +1,40 @@
-// Pages of 512 bytes, each at its place in a file.
+// What a house's pages are to a host.
 ghost use mathlib.Core.Path.{_≡_};
-ghost use Prim.Native.Nat.{ℕ, _+_, _*_, _≤_, _<_};
+ghost use mathlib.Core.List.{List};
+ghost use Prim.Native.Nat.{ℕ, _<_};
 ghost use lib.ListN.{length};
-ghost use Rattle.std.specs.Results.{Cases};
 ghost use Rattle.std.specs.Vec.{made};
-use std::fmt;
-use std::fs;
-use std::fs::File;
-use std::fs::OpenFile;
-use std::fs::OpenOptions;
 use std::io;
-use std::io::ErrorKind;
-use std::io::Read;
-use std::io::Seek;
-use std::io::SeekFrom;
-use std::io::Write;
 
+// How many bytes a page has.
 pub const PAGE_LEN: usize = 512;
 
-// A house has at least so many pages, and at most so many.
-pub const FIRST_PAGES: u64 = 256;
-pub const MOST_PAGES: u64 = 1_048_576;
-
-// What keeps pages: `size` is how many there are, and a page is asked for only if it is one of them.
+// What keeps pages: `size` is how many there are, and a page is asked for only if it is one of them. What it is to give a page, to take one and to keep
+// what was taken, each disk says itself, as relations between the disk before and after.
 pub trait Disk {
     ghost size: { Self → ℕ };
+
+    ghost gave: { Self → ℕ → List ℕ → Self → Type 0 };
+
+    ghost took: { Self → ℕ → List ℕ → Self → Type 0 };
+
+    ghost kept: { Self → Self → Type 0 };
 
     fn pages(&self) -> u64
         ensures { λ r. ⌜ r ≡ size (now (self .entry)) ⌝ };
 
     fn read_page(&mut self, page: u64, into: &mut [u8]) -> io::Result<()>
         requires { ⌜ (page < size (now self)) × (length (now into) ≡ 512) ⌝ }
-        ensures { λ _. ⌜ size (now (self .exit)) ≡ size (now (self .entry)) ⌝ };
+        ensures gave { λ r. ⌜ made r (λ _. gave (now (self .entry)) page (now (into .exit)) (now (self .exit))) ⌝ }
+        ensures size { λ _. ⌜ size (now (self .exit)) ≡ size (now (self .entry)) ⌝ };
 
     fn write_page(&mut self, page: u64, bytes: &[u8]) -> io::Result<()>
         requires { ⌜ (page < size (now self)) × (length (now bytes) ≡ 512) ⌝ }
-        ensures { λ _. ⌜ size (now (self .exit)) ≡ size (now (self .entry)) ⌝ };
+        ensures took { λ r. ⌜ made r (λ _. took (now (self .entry)) page (now (bytes .entry)) (now (self .exit))) ⌝ }
+        ensures size { λ _. ⌜ size (now (self .exit)) ≡ size (now (self .entry)) ⌝ };
 
     // Brings what was written to where it lasts.
     fn sync(&mut self) -> io::Result<()>
-        ensures { λ _. ⌜ size (now (self .exit)) ≡ size (now (self .entry)) ⌝ };
-}
-
-// A file of pages that is open for reading and writing.
-#[derive(Drop)]
-pub struct PageFile {
-    file: File,
-    pages: u64,
-    ghost few: { pages ≤ 1048576 },
-}
-
-impl PageFile {
-    // Where a page begins: all of it lies within the file.
-    fn place(&self, page: u64) -> u64
-        requires { ⌜ page < now self .pages ⌝ }
-        ensures { λ r. ⌜ (r ≡ 512 * page) × (r + 512 ≤ 512 * now (self .entry) .pages) ⌝ }
-    {
-        512 * page
-    }
-}
-
-pub impl Disk for PageFile as PageFileDisk {
-    ghost size = { λ f. f .pages };
-
-    fn pages(&self) -> u64 {
-        self.pages
-    }
-
-    fn read_page(&mut self, page: u64, into: &mut [u8]) -> io::Result<()> {
-        let place = self.place(page);
-        self.file.seek(SeekFrom::Start(place))?;
-        self.file.read_exact(into)
-    }
-
-    fn write_page(&mut self, page: u64, bytes: &[u8]) -> io::Result<()> {
-        let place = self.place(page);
-        self.file.seek(SeekFrom::Start(place))?;
-        self.file.write_all(bytes)
-    }
-
-    fn sync(&mut self) -> io::Result<()> {
-        self.file.sync_data()
-    }
-}
-
-// Why a file of pages can't be opened.
-#[derive(Drop)]
-pub enum OpenError {
-    Io(io::Error),
-    // Its length in bytes is not a number of pages.
-    NotPages(u64),
-    // It has, or is to have, so many pages: too few or too many.
-    Pages(u64),
-}
-
-pub impl From<io::Error> for OpenError as IoOpenError {
-    fn from(e: io::Error) -> OpenError {
-        OpenError::Io(e)
-    }
-}
-
-pub impl fmt::Display for OpenError as OpenErrorDisplay {
-    fn fmt<W: fmt::Write>(&self, f: &mut fmt::Formatter<W>) -> fmt::Result {
-        match self {
-            OpenError::Io(e) => write!(f, "{e}"),
-            OpenError::NotPages(len) => write!(f, "it has {len} bytes, which is not a number of pages of 512 bytes: is it another file?"),
-            OpenError::Pages(pages) => write!(f, "{pages} pages: a house has 256 to 1048576"),
-        }
-    }
-}
-
-// Whether a house can have so many pages.
-fn few_enough(pages: u64) -> Result<u64, OpenError>
-    ensures { λ r. ⌜ Cases r (λ p. (p ≡ pages) × (256 ≤ p) × (p ≤ 1048576)) (λ e. e ≡ OpenError.Pages pages) ⌝ }
-{
-    if pages < FIRST_PAGES || pages > MOST_PAGES {
-        return Err(OpenError::Pages(pages));
-    }
-    Ok(pages)
-}
-
-impl PageFile {
-    // Opens a file of pages that is there.
-    pub fn open(rt: &LibcRuntime, path: &str) -> Result<PageFile, OpenError>
-        ensures { λ r. ⌜ made r (λ f. 256 ≤ f .pages) ⌝ }
-    {
-        let file = OpenOptions::new().read(true).write(true).open(rt, path)?;
-        let len = file.metadata()?.len();
-        if len % 512 != 0 {
-            return Err(OpenError::NotPages(len));
-        }
-        let pages = few_enough(len / 512)?;
-        Ok(PageFile { file, pages })
-    }
-
-    // Makes a file of so many pages, all 0. A file that is there is left as it is.
-    pub fn create(rt: &LibcRuntime, path: &str, pages: u64) -> Result<PageFile, OpenError>
-        ensures { λ r. ⌜ made r (λ f. (f .pages ≡ pages) × (256 ≤ pages)) ⌝ }
-    {
-        let pages = few_enough(pages)?;
-        let file = File::create_new(rt, path)?;
-        file.set_len(512 * pages)?;
-        file.sync_all()?;
-        Ok(PageFile { file, pages })
-    }
+        ensures kept { λ r. ⌜ made r (λ _. kept (now (self .entry)) (now (self .exit))) ⌝ }
+        ensures size { λ _. ⌜ size (now (self .exit)) ≡ size (now (self .entry)) ⌝ };
 }

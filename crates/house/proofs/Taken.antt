@@ -11,14 +11,15 @@ use borrow.Author.Tests.{eq-eqb, ne-eqb, le-leb, lt-leb}
 use Rattle.model.specs.Run.{Event, Act, refused, Step}
 use Rattle.house.specs.declared.Told.{Told}
 use Rattle.house.specs.declared.Told.the-variants.{No}
-use Rattle.house.specs.Machine.{own, act-on, memory-len}
+use Rattle.house.specs.Memory.{memory-len}
+use Rattle.house.specs.Machine.{own, stepped}
 use Rattle.house.specs.Entry.{Step-says, step-fits, event-of, Act-told}
 use Rattle.house.specs.Told.{Responds, Exported, told-numbers}
-use Rattle.house.proofs.Whole.{zeros-length}
+use Rattle.pages.proofs.Words.{length-zeros}
 
 pub start-length : length (own .start) ≡ 262144
 unfolding own
-start-length = zeros-length memory-len
+start-length = length-zeros memory-len
 
 and-false-right : (a : Bool) → a && false ≡ false
 and-false-right true = refl
@@ -46,14 +47,14 @@ module _ (memory : List ℕ) (kind : ℕ) (bytes out : List ℕ) where
   refused-step f = rw f (refl, refl, refl)
 
   pub taken-step : (r : Told) (memory₁ out₁ : List ℕ) (ev : Event) → length memory ≡ 262144 → kind ≤ 5 → 131072 ≤ length out → ev ≡ event-of kind bytes
-    → Responds memory ev r out memory₁ out₁ → Step-says memory kind bytes out (step-fits memory kind bytes out) r memory₁ out₁
+      → Responds memory ev r out memory₁ out₁ → Step-says memory kind bytes out (step-fits memory kind bytes out) r memory₁ out₁
   unfolding Step-says
   taken-step r memory₁ out₁ ev m k o e a = rw (fits m k o, ← e) a
 
 -- where the definition refuses, the memory and the row stay as they are
-pub told-no : (memory : List ℕ) (ev : Event) (k : ℕ) (out : List ℕ) → act-on ev ≡ refused k → Responds memory ev (No k) out memory out
+pub told-no : (memory : List ℕ) (ev : Event) (k : ℕ) (out : List ℕ) → stepped memory ev ≡ record { memory = memory; act = refused k } → Responds memory ev (No k) out memory out
 unfolding own Act-told
-told-no memory ev k out e = (refl, rw e (refl, refl))
+told-no memory ev k out e = (sym (ap (λ (s : Step). s .memory) e), rw e (refl, refl))
 
 -- two numbers that are both written
 two-set : (t : List ℕ) (a b : ℕ) → length t ≡ 2 → set (set t 0 a) 1 b ≡ a ∷ b ∷ []
@@ -69,6 +70,6 @@ module _ (memory : List ℕ) (kind : ℕ) (bytes out told : List ℕ) where
   not-exported n = rw (ne-eqb (length told) 2 n) (refl, refl, refl, refl)
 
   pub exported : (r : Told) (p : ℕ × ℕ) (memory₁ out₁ : List ℕ) → length told ≡ 2 → Step-says memory kind bytes out (step-fits memory kind bytes out) r memory₁ out₁
-    → p ≡ told-numbers r → Exported memory kind bytes out told 1 memory₁ out₁ (set (set told 0 (p .0)) 1 (p .1))
+      → p ≡ told-numbers r → Exported memory kind bytes out told 1 memory₁ out₁ (set (set told 0 (p .0)) 1 (p .1))
   unfolding Exported
   exported r p memory₁ out₁ l says e = rw (eq-eqb (length told) 2 l) (refl, (r, says, two-set told (p .0) (p .1) l ∙ ap (λ (q : ℕ × ℕ). q .0 ∷ q .1 ∷ []) e))

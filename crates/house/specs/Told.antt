@@ -12,7 +12,7 @@ use Rattle.model.specs.Run.{Engine, Step}
 use Rattle.house.specs.declared.event.Event.{Event}
 use Rattle.house.specs.declared.event.Event.the-variants.{Power, Said, Page, Next, Heard, Lost}
 use Rattle.house.specs.declared.refusal.Refusal.{Refusal}
-use Rattle.house.specs.declared.refusal.Refusal.the-variants.{NoCommand, Unknown}
+use Rattle.house.specs.declared.refusal.Refusal.the-variants.{NoCommand, Unknown, NotThere, Taken, TooMany, NoRoom}
 use Rattle.house.specs.declared.Told.{Told}
 use Rattle.house.specs.declared.Told.the-variants.{Read, Write, Flush, Shows, Send, Done, No}
 use Rattle.house.specs.Machine.{own}
@@ -33,6 +33,10 @@ Responds memory ev r out memory₁ out₁ = (memory₁ ≡ own .step memory ev .
 abbrev pub refusal-number : Refusal → ℕ
 refusal-number NoCommand = 1
 refusal-number Unknown = 2
+refusal-number NotThere = 3
+refusal-number Taken = 4
+refusal-number TooMany = 7
+refusal-number NoRoom = 8
 
 abbrev pub told-refusal : Refusal → run.Act
 told-refusal r = run.refused (refusal-number r)

@@ -1,6 +1,6 @@
 // The step for hosts in C and Rust: numbers and slices only.
 ghost use mathlib.Core.Path.{_≡_};
-ghost use Rattle.house.specs.Machine.{memory-len};
+ghost use Rattle.house.specs.Memory.{memory-len};
 ghost use Rattle.house.specs.Told.{Exported, told-numbers};
 use super::MEMORY_LEN;
 use super::Told;
@@ -27,7 +27,13 @@ fn in_numbers(told: Told) -> (u64, u64)
 // One step; its act goes into `told` as a tag (0 read, 1 write, 2 flush, 3 shows, 4 send, 5 done, 6 no) and a value, and 1 is answered.
 // Where `told` has not two numbers, 0 is answered and nothing changes.
 #[unsafe(no_mangle)]
-pub extern "C" fn posthouse_step(memory: &mut [u64], kind: u64, bytes: &[u8], out: &mut [u8], told: &mut [u64]) -> u64
+pub extern "C" fn posthouse_step(
+    memory: &mut [u64],
+    kind: u64,
+    bytes: &[u8],
+    out: &mut [u8],
+    told: &mut [u64],
+) -> u64
     ensures { λ r. ⌜ Exported (now (memory .entry)) kind (now (bytes .entry)) (now (out .entry)) (now (told .entry)) r (now (memory .exit)) (now (out .exit)) (now (told .exit)) ⌝ }
 {
     if told.len() != TOLD_LEN {

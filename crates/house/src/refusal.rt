@@ -8,6 +8,14 @@ pub enum Refusal {
     NoCommand,
     // The command is not known yet.
     Unknown,
+    // The person, or their box or letter, is not there.
+    NotThere,
+    // Somebody has the name, or there is such a box.
+    Taken,
+    // There are as many as there may be.
+    TooMany,
+    // More would be kept than there is room for.
+    NoRoom,
 }
 
 impl Refusal {
@@ -17,6 +25,10 @@ impl Refusal {
         match self {
             Refusal::NoCommand => 1,
             Refusal::Unknown => 2,
+            Refusal::NotThere => 3,
+            Refusal::Taken => 4,
+            Refusal::TooMany => 7,
+            Refusal::NoRoom => 8,
         }
     }
 }

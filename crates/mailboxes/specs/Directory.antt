@@ -32,7 +32,7 @@ name-record owner nm = (256 * owner + length nm) ∷ name-words nm
 unfoldable pub person-record : List ℕ → List ℕ
 person-record nm = name-record 0 nm ++ (0 ∷ 0 ∷ 0 ∷ [])
 
--- an empty box: the number that the next letter gets, how many letters, and their first and last slot
+-- an empty box: the number that the next letter gets, how many letters it has, and their first and last slot in one word
 unfoldable pub box-record : ℕ → List ℕ → List ℕ
 box-record owner nm = name-record owner nm ++ (1 ∷ 0 ∷ 0 ∷ [])
 

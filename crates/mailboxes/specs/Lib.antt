@@ -1,1 +1,3 @@
 pub mod Directory
+pub mod Room
+pub mod Row

@@ -4,14 +4,15 @@ mod options;
 mod session;
 
 use host::Disk;
-use host::IoOpenError;
+use host::FaultDisplay;
 use host::Machine;
-use host::OpenError;
-use host::OpenErrorDisplay;
-use host::PageFile;
-use host::PageFileDisk;
 use options::Options;
 use options::Wish;
+use pagefile::IoOpenError;
+use pagefile::OpenError;
+use pagefile::OpenErrorDisplay;
+use pagefile::PageFile;
+use pagefile::PageFileDisk;
 use session::Session;
 use std::env;
 use std::error::AnyError;
@@ -48,21 +49,40 @@ fn complain(rt: &LibcRuntime, message: &str) -> Result<(), AnyError> {
     Err("nothing was done".into())
 }
 
+// One sitting, from power to the last line. What stops it is told.
+fn sit(rt: &LibcRuntime, options: &Options, file: PageFile) -> Result<(), AnyError> {
+    let machine = Machine::new(rt.alloc())?;
+    let mut session = Session { rt, file, machine };
+    match session.run(options.house, options.houses) {
+        Ok(()) => Ok(()),
+        Err(fault) => {
+            eprintln!(
+                rt,
+                "posthouse: the house stopped: {fault}; what was answered with 'done' is kept, so start it again"
+            )?;
+            Err("the house stopped".into())
+        }
+    }
+}
+
 fn keep_house(rt: &LibcRuntime, options: &Options) -> Result<(), AnyError> {
     let path = options.path.as_str();
     match open(rt, options) {
         Ok(file) => {
-            if let Some(pages) = options.pages && pages != file.pages() {
+            if let Some(pages) = options.pages
+                && pages != file.pages()
+            {
                 let has = file.pages();
-                eprintln!(rt, "posthouse: {path} has {has} pages, not {pages}: leave the number out, or name another file")?;
+                eprintln!(
+                    rt,
+                    "posthouse: '{path}' has {has} pages, not {pages}: leave the number out, or name another file"
+                )?;
                 return Err("another number of pages".into());
             }
-            let machine = Machine::new(rt.alloc())?;
-            let mut session = Session::new(rt, file, machine);
-            session.run(options.house, options.houses)
+            sit(rt, options, file)
         }
         Err(e) => {
-            eprintln!(rt, "posthouse: can't open {path}: {e}")?;
+            eprintln!(rt, "posthouse: can't open '{path}': {e}")?;
             Err("the file can't be opened".into())
         }
     }

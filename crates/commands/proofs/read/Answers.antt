@@ -1,3 +1,4 @@
+-- `read` meets its contract.
 use Rattle.commands.proofs.Commands.{reads, spelled-once}
 use Rattle.commands.proofs.read.Needs as need
 

@@ -1,26 +1,31 @@
-use mathlib.Core.Path.{_≡_, refl, sym, _∙_, ap}
+-- Each event is told to the function for it.
+use mathlib.Core.Path.{ap}
 use mathlib.Core.Logic.{inl, inr}
-use Rattle.model.specs.Run.{Event, Act, Step, refused}
-use Rattle.house.specs.Machine.{own, act-on}
-use Rattle.house.specs.Entry.{Act-told}
+use Rattle.house.specs.Machine.{own, stepped}
 use Rattle.house.specs.Told.{event-meant}
-use Rattle.house.proofs.Taken.{told-no}
+use Rattle.house.proofs.Acts.{does-as, out-does}
 use Rattle.house.proofs.respond.Needs as need
 
 pub returns-in-Power : need.returns-in-Power
-unfolding own Act-told
-returns-in-Power c = rw (c .in-Power .is) (refl, (refl, refl))
+unfolding own
+returns-in-Power c = does-as _ _ _ _ (ap (λ e. stepped (c .args .memory .now) (event-meant e)) (c .in-Power .is)) (c .begin .ensures .0, c .begin .ensures .1 (c .args .out .now))
 
 pub returns-in-Said : need.returns-in-Said
-returns-in-Said c = told-no (c .args .memory .now) (event-meant (c .args .event)) (c .number .result) (c .args .out .now)
-    (ap (λ e. act-on (event-meant e)) (c .in-Said .is) ∙ sym (c .refuse .ensures) ∙ ap refused (sym (c .number .ensures)))
+unfolding own
+returns-in-Said c = does-as _ _ _ _ (ap (λ e. stepped (c .args .memory .now) (event-meant e)) (c .in-Said .is)) (c .told-command .ensures)
 
 pub returns-in-Page : need.returns-in-Page
-returns-in-Page c =
-    let out-of-turn : act-on (event-meant (c .args .event)) ≡ refused 1 =
-        elim (c .in-Page .is)
-          [ inl p ↦ ap (λ e. act-on (event-meant e)) (p .1)
-          | inr p ↦ elim p
-            [ inl q ↦ ap (λ e. act-on (event-meant e)) q
-            | inr q ↦ elim q [ inl r ↦ ap (λ e. act-on (event-meant e)) (r .1) | inr r ↦ ap (λ e. act-on (event-meant e)) r ] ] ] in
-    told-no (c .args .memory .now) (event-meant (c .args .event)) (c .number-in-Page .result) (c .args .out .now) (out-of-turn ∙ ap refused (sym (c .number-in-Page .ensures)))
+unfolding own
+returns-in-Page c = does-as _ _ _ _ (ap (λ e. stepped (c .args .memory .now) (event-meant e)) (c .in-Page .is)) (c .told-page .ensures .0, c .told-page .ensures .1 (c .args .out .now))
+
+pub returns-in-Next : need.returns-in-Next
+unfolding own
+returns-in-Next c = does-as _ _ _ _ (ap (λ e. stepped (c .args .memory .now) (event-meant e)) (c .in-Next .is)) (c .told-next .ensures)
+
+pub returns-in-Heard : need.returns-in-Heard
+unfolding own
+returns-in-Heard c =
+    elim (c .in-Heard .is) [
+      | inl h ↦ out-does (c .args .memory .now) (c .args .out .now) (c .out-of-turn .result) (c .out-of-turn .ensures) (ap (λ e. stepped (c .args .memory .now) (event-meant e)) (h .1))
+      | inr h ↦ out-does (c .args .memory .now) (c .args .out .now) (c .out-of-turn .result) (c .out-of-turn .ensures) (ap (λ e. stepped (c .args .memory .now) (event-meant e)) h)
+    ]

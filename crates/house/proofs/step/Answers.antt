@@ -1,6 +1,5 @@
-use mathlib.Core.Path.{refl}
+-- What does not fit is refused, and the rest is told as an event.
 use mathlib.Core.Logic.{⊎-elim}
-use native.Mathlib.Omega.{arith}
 use Rattle.house.specs.Told.{event-meant}
 use Rattle.house.proofs.Taken.{unfit-memory, unfit-out, unfit-kind, refused-step, taken-step}
 use Rattle.house.proofs.Whole.{whole}

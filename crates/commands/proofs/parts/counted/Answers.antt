@@ -1,3 +1,4 @@
+-- `counted` meets its contract.
 use mathlib.Core.Path.{sym}
 use borrow.Author.Needs.{needs}
 use Rattle.commands.specs.Reader.{read-counted}

@@ -1,3 +1,4 @@
+-- `house` meets its contract.
 use Rattle.commands.specs.Reader.{read-house}
 use Rattle.commands.proofs.parts.house.Needs as need
 

@@ -1,3 +1,4 @@
+-- `letter` meets its contract.
 use borrow.Author.Needs.{needs}
 use Rattle.commands.specs.Reader.{read-letter}
 use Rattle.commands.proofs.Bytes.{all-bytes-typed}
@@ -15,4 +16,4 @@ returns-then-letter-gt-LONGEST-LETTER c =
 pub returns : need.returns
 returns c =
     letter-there (c .args .bytes .now) (c .in-Continue-letter .letter .now) (c .in-Continue-letter .rest .now) (c .in-Continue-letter .ensures tt)
-        (all-bytes-typed (c .args .bytes .now) (c .typed .bytes)) (c .if-letter-gt-LONGEST-LETTER .left)
+    (all-bytes-typed (c .args .bytes .now) (c .typed .bytes)) (c .if-letter-gt-LONGEST-LETTER .left)

@@ -1,3 +1,4 @@
+-- `number` meets its contract.
 use mathlib.Core.Path.{sym}
 use Rattle.commands.proofs.Bytes.{all-bytes-typed}
 use Rattle.commands.proofs.Laws.{number-short, number-there}
@@ -10,4 +11,4 @@ pub returns : need.returns
 returns c =
     let h = c .in-Continue-digits .ensures tt .cases in
     number-there (c .args .bytes .now) (c .in-Continue-digits .digits .now) (c .in-Continue-digits .rest .now) (c .from-be-bytes .result)
-        (all-bytes-typed (c .args .bytes .now) (c .typed .bytes)) (h .0) (h .1) (h .2) (c .from-be-bytes .ensures)
+    (all-bytes-typed (c .args .bytes .now) (c .typed .bytes)) (h .0) (h .1) (h .2) (c .from-be-bytes .ensures)

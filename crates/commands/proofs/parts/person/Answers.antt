@@ -1,3 +1,4 @@
+-- `person` meets its contract.
 use Rattle.commands.specs.Reader.{read-person}
 use Rattle.commands.proofs.parts.person.Needs as need
 

@@ -1,7 +1,7 @@
+-- `after_test` meets its contract.
 use mathlib.Core.Path.{sym, ap}
 use native.Mathlib.Omega.{arith}
 use borrow.Author.Needs.{needs}
-use Prim.Native.Nat.{_<_}
 use Rattle.commands.specs.Reader.{read-test, by-kind}
 use Rattle.commands.specs.Lent.{left-after}
 use Rattle.commands.proofs.Laws.{no-such-kind, test-at}
@@ -54,4 +54,4 @@ returns-in-Continue-after-test t c = rw (test-at (c .args .depth) (c .args .byte
 pub returns-in-rest : need.returns-in-rest
 returns-in-rest t c =
     rw (test-at (c .args .depth) (c .args .bytes .now) (omega arith))
-        (sym (ap left-after (no-such-kind _ (c .args .bytes .now) (c .in-Continue-kind .kind .now) (c .in-Continue-kind .rest .now) (c .in-Continue-kind .ensures tt .cases .0) (omega arith))))
+    (sym (ap left-after (no-such-kind _ (c .args .bytes .now) (c .in-Continue-kind .kind .now) (c .in-Continue-kind .rest .now) (c .in-Continue-kind .ensures tt .cases .0) (omega arith))))

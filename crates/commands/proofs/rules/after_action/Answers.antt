@@ -1,3 +1,4 @@
+-- `after_action` meets its contract.
 use Prim.Native.Nat.{_≤_}
 use mathlib.Core.Path.{sym, ap}
 use native.Mathlib.Omega.{arith}

@@ -1,3 +1,4 @@
+-- `after_rule` meets its contract.
 use borrow.Author.Needs.{needs}
 use Rattle.commands.specs.Reader.{read-rule}
 use Rattle.commands.proofs.rules.after_rule.Needs as need

@@ -1,0 +1,10 @@
+pub mod Places
+pub mod Names
+pub mod Compare
+pub mod Writes
+pub mod Room
+pub mod Rows
+pub mod People
+pub mod Records
+pub mod Changes
+pub mod Weight

@@ -1,0 +1,10 @@
+pub mod Words
+pub mod Bits
+pub mod Geometry
+pub mod Touched
+pub mod Reading
+pub mod Harmless
+pub mod Kept
+pub mod Blank
+pub mod Commit
+pub mod Atomic

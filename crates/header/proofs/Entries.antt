@@ -1,6 +1,6 @@
 -- When a field is not looked for, and what is answered then and otherwise.
 use Rattle.std.proofs.Common.{◌≡◌, ℕ, ◌<◌, ◌≤◌, Bool, true, false, ◌&&◌, ltb, leb, ◌⊎◌, List, [], ◌∷◌, ◌++◌, length, drop, refl, ap, inl, inr, arith, le-ltb, lt-ltb, le-leb, leb-true}
-use borrow.Author.Tests.{lt_leb}
+use borrow.Author.Tests.{lt-leb}
 use Rattle.std.proofs.lemmas.Bool.{cases_Bool, and_right}
 use Rattle.model.specs.Mail.{pick, small, smalls, field}
 use Rattle.header.specs.declared.Reply.TheVariants.{Value, None, Refused}
@@ -22,13 +22,13 @@ module _ (letter name out : List ℕ) where
 
   pub refusal_name : length letter ≤ 65535 → (length name ≡ 0) ⊎ (64 < length name) → refusal letter name out ≡ 2
   unfolding refusal
-  refusal_name l (inl e) = rw (lt-ltb (length letter) 65536 (omega arith), lt_leb 1 (length name) (omega arith))
-  refusal_name l (inr e) = rw (lt-ltb (length letter) 65536 (omega arith), and_right (leb 1 (length name)) (leb (length name) 64) (lt_leb (length name) 64 e))
+  refusal_name l (inl e) = rw (lt-ltb (length letter) 65536 (omega arith), lt-leb 1 (length name) (omega arith))
+  refusal_name l (inr e) = rw (lt-ltb (length letter) 65536 (omega arith), and_right (leb 1 (length name)) (leb (length name) 64) (lt-leb (length name) 64 e))
 
   pub refusal_row : length letter ≤ 65535 → 1 ≤ length name → length name ≤ 64 → length out < length letter → refusal letter name out ≡ 3
   unfolding refusal
   refusal_row l a b o =
-      rw (lt-ltb (length letter) 65536 (omega arith), le-leb 1 (length name) a, le-leb (length name) 64 b, lt_leb (length letter) (length out) o)
+      rw (lt-ltb (length letter) 65536 (omega arith), le-leb 1 (length name) a, le-leb (length name) 64 b, lt-leb (length letter) (length out) o)
 
   pub refusal_none : length letter ≤ 65535 → 1 ≤ length name → length name ≤ 64 → length letter ≤ length out → refusal letter name out ≡ 0
   unfolding refusal

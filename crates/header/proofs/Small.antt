@@ -1,7 +1,7 @@
 -- Laws of small letters, and of the tests that compare texts in them: each turns a test over lists into what a loop over lent bytes looks at.
 use Rattle.std.proofs.Common.{◌≡◌, ℕ, zero, suc, ◌+◌, ◌<◌, ◌≤◌, true, false, ◌&&◌, eqb, leb, List, [], ◌∷◌, ◌++◌, length, get_or, take, drop, set, sym, refl, ap, ◌∙◌, inl, inr, append_assoc, arith, le-ltb, lt-ltb, ne_eqb, le-leb}
 use mathlib.Core.Bool.{and_assoc}
-use borrow.Author.Tests.{lt_leb}
+use borrow.Author.Tests.{lt-leb}
 use Rattle.std.proofs.lemmas.List.{drop_more, drop_all, take_more, length-take-le, set_at}
 use Rattle.std.proofs.lemmas.Bool.{cases_Bool, cases_lt, and_right}
 use Rattle.std.specs.Char.{to_ascii_lowercase}
@@ -20,10 +20,10 @@ pub small_capital : (c : ℕ) → 65 ≤ c → c ≤ 90 → small c ≡ c + 32
 small_capital c a b = rw (le-leb 65 c a, le-leb c 90 b)
 
 pub small_below : (c : ℕ) → c < 65 → small c ≡ c
-small_below c a = rw (lt_leb 65 c a)
+small_below c a = rw (lt-leb 65 c a)
 
 pub small_above : (c : ℕ) → 90 < c → small c ≡ c
-small_above c a = let b : leb 65 c ≡ true = le-leb 65 c (omega arith) in rw (b, lt_leb c 90 a)
+small_above c a = let b : leb 65 c ≡ true = le-leb 65 c (omega arith) in rw (b, lt-leb c 90 a)
 
 -- the standard library's small letter is this one
 pub lower_small : (c : ℕ) → to_ascii_lowercase c ≡ small c

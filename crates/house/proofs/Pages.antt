@@ -1,6 +1,6 @@
 -- What is read from pages on which nothing waits: their words, one page after another; and what a stop leaves of them, which is all.
 use Rattle.std.proofs.Common.{◌≡◌, ℕ, zero, suc, ◌+◌, ◌*◌, ◌<◌, ◌≤◌, true, ltb, List, [], ◌∷◌, ◌++◌, length, take, sym, refl, ap, ◌∙◌, subst, inl, zero-add, arith, length-append}
-use lib.Seq.{take_append_seam, drop_append_add}
+use lib.Seq.{take-append_seam, drop-append-add}
 use Rattle.std.proofs.lemmas.Bool.{eq-eqb, and_parts}
 use Rattle.model.specs.Mail.{flat, every}
 use Rattle.model.specs.House.{House}
@@ -97,13 +97,13 @@ page_of_pages f zero from t b l = absurd (omega arith)
 page_of_pages f (suc k) from zero b l =
     let a : length (f from) ≡ 64 = l from (omega arith) (omega arith) in
     let z : from + 0 ≡ from = omega arith in
-    ap (λ j. take j (f from ++ flat f (count_up (suc from) k))) (sym a) ∙ take_append_seam (f from) (flat f (count_up (suc from) k)) ∙ ap f (sym z)
+    ap (λ j. take j (f from ++ flat f (count_up (suc from) k))) (sym a) ∙ take-append_seam (f from) (flat f (count_up (suc from) k)) ∙ ap f (sym z)
 page_of_pages f (suc k) from (suc t) b l =
     let a : length (f from) ≡ 64 = l from (omega arith) (omega arith) in
     let z : 64 * suc t ≡ length (f from) + 64 * t = omega arith in
     let y : suc from + t ≡ from + suc t = omega arith in
     ap (λ j. part (f from ++ flat f (count_up (suc from) k)) j 64) z
-    ∙ ap (take 64) (drop_append_add (f from) (flat f (count_up (suc from) k)) (64 * t))
+    ∙ ap (take 64) (drop-append-add (f from) (flat f (count_up (suc from) k)) (64 * t))
     ∙ page_of_pages f k (suc from) t (omega arith) (λ u g h. l u (omega arith) (omega arith))
     ∙ ap f y
 

@@ -1,6 +1,6 @@
 -- When a step is taken and when it is refused, from the lengths and the kind that the code tests.
 use Rattle.std.proofs.Common.{◌≡◌, ℕ, zero, suc, ◌<◌, ◌≤◌, Bool, true, false, ◌&&◌, eqb, ltb, leb, ◌⊎◌, List, [], ◌∷◌, length, set, sym, refl, ap, ◌∙◌, subst, inl, inr, arith, eq-eqb, ne_eqb, le-leb}
-use borrow.Author.Tests.{lt_leb}
+use borrow.Author.Tests.{lt-leb}
 use Rattle.model.specs.Run.{Event, Act, refused, Step}
 use Rattle.house.specs.declared.Told.{Told}
 use Rattle.house.specs.declared.Told.TheVariants.{No}
@@ -29,11 +29,11 @@ module _ (memory : List ℕ) (kind : ℕ) (bytes out : List ℕ) where
 
   pub unfit_out : length out < 131072 → step_fits memory kind bytes out ≡ false
   unfolding step_fits
-  unfit_out h = rw (lt_leb 131072 (length out) h, and_false_right, and_false_right)
+  unfit_out h = rw (lt-leb 131072 (length out) h, and_false_right, and_false_right)
 
   pub unfit_kind : 5 < kind → step_fits memory kind bytes out ≡ false
   unfolding step_fits
-  unfit_kind h = rw (lt_leb kind 5 h, and_false_right)
+  unfit_kind h = rw (lt-leb kind 5 h, and_false_right)
 
   pub refused_step : step_fits memory kind bytes out ≡ false → StepSays memory kind bytes out (step_fits memory kind bytes out) (No 0) memory out
   unfolding StepSays

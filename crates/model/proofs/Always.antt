@@ -1,6 +1,6 @@
 -- From the first houses on: what is known to have been taken was, and boxes stay good, whatever is said and however pushes break off.
 use Rattle.std.proofs.Common.{◌≡◌, ℕ, zero, suc, ◌+◌, ◌-◌, ◌<◌, true, ◌≢◌, ◌⊎◌, List, ◌∷◌, length, get_or, take, replicate, refl, ap, ◌∙◌, inl, inr, arith, length-append, length-drop}
-use lib.ListN.{length_replicate, get_or_replicate}
+use lib.ListN.{length-replicate, get_or-replicate}
 use Rattle.std.proofs.lemmas.Bool.{cases_eq}
 use Rattle.model.specs.Mail.{same}
 use Rattle.model.specs.House.{Command, House, Plain, Way, turn, house_at, set_house, way_at, pushed, not_taken}
@@ -21,13 +21,13 @@ so_many_is zero x = refl
 so_many_is (suc n) x = ap (λ r. x ∷ r) (so_many_is n x)
 
 first_at : (n c : ℕ) → c < n → house_at (so_many n (first_house n)) c ≡ first_house n
-first_at n c h = house_at_is _ c ∙ rw (so_many_is n (first_house n)) (get_or_replicate n c (first_house n) no_house h)
+first_at n c h = house_at_is _ c ∙ rw (so_many_is n (first_house n)) (get_or-replicate n c (first_house n) no_house h)
 
 first_way : (n d : ℕ) → d < n → way_at (so_many n no_way) d ≡ no_way
-first_way n d h = way_at_is _ d ∙ rw so_many_is (get_or_replicate n d no_way no_way h)
+first_way n d h = way_at_is _ d ∙ rw so_many_is (get_or-replicate n d no_way no_way h)
 
 first_taken : (n c : ℕ) → c < n → get_or (so_many {A = ℕ} n 0) c 0 ≡ 0
-first_taken n c h = rw so_many_is (get_or_replicate {A = ℕ} n c 0 0 h)
+first_taken n c h = rw so_many_is (get_or-replicate {A = ℕ} n c 0 0 h)
 
 first_good : (n : ℕ) → good_house (first_house n) ≡ true
 unfolding good_house good_box rising below
@@ -40,9 +40,9 @@ first_ready n = record { staffed = omega arith; at_home = refl; on_to_houses = r
 begun_sound : (n : ℕ) → Sound n (so_many n (first_house n))
 unfolding KnownTaken
 begun_sound n = record {
-  houses = rw (so_many_is n (first_house n)) (length_replicate n (first_house n));
-  ways = λ c l. rw (first_at n c l, so_many_is n no_way) (length_replicate n no_way);
-  taken = λ c l. rw (first_at n c l, so_many_is {A = ℕ} n 0) (length_replicate {A = ℕ} n 0);
+  houses = rw (so_many_is n (first_house n)) (length-replicate n (first_house n));
+  ways = λ c l. rw (first_at n c l, so_many_is n no_way) (length-replicate n no_way);
+  taken = λ c l. rw (first_at n c l, so_many_is {A = ℕ} n 0) (length-replicate {A = ℕ} n 0);
   own = λ c l. rw (first_at n c l) (first_way n c l);
   known = λ c d l k. rw (first_at n c l, first_at n d k, first_way n d k, first_taken n c l) (omega arith);
   good = λ c l. rw (first_at n c l) (first_good n);

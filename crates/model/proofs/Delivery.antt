@@ -1,6 +1,6 @@
 -- Delivery: a letter is put into boxes here or waits for another house, and nothing else happens. How letters come, and how often one is passed on.
 use Rattle.std.proofs.Common.{◌≡◌, ℕ, zero, suc, ◌+◌, ◌<◌, ◌≤◌, Bool, true, false, eqb, ◌≢◌, List, [], ◌∷◌, ◌++◌, length, get_or, refl, ap, ◌∙◌, arith, get_or-set_other, get_or-set_same}
-use borrow.Author.Tests.{eqb_false}
+use borrow.Author.Tests.{eqb-false}
 use Rattle.model.specs.Mail.{pick, fate, in_box}
 use Rattle.model.specs.House.{House, Out, person_at, somebody, put_here, wait_for, pass_on, deliver, come, set_taken}
 use Rattle.model.specs.Promise.{Ends, passes, passed}
@@ -16,7 +16,7 @@ module _ (P : House → Type 0) (c : ℕ) (put : (h : House) (a : ℕ) (ms bs : 
     where
       go : (b : Bool) → eqb (get_or p 0 0) c ≡ b → P (pick b (here h (get_or p 1 0)) (wait_for h (get_or p 0 0) (record { person = get_or p 1 0; left = n; bytes = bs })))
       go true e = k h (get_or p 1 0) q
-      go false e = wait h (get_or p 0 0) _ (λ s. eqb_false (get_or p 0 0) c e s) q
+      go false e = wait h (get_or p 0 0) _ (λ s. eqb-false (get_or p 0 0) c e s) q
 
   pub deliver_keeps : (n : ℕ) (bs : List ℕ) (h : House) (a : ℕ) → P h → P (deliver n c bs h a)
   unfolding deliver

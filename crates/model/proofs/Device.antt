@@ -1,7 +1,7 @@
 -- What a stop leaves of writes to other pages.
 use Rattle.std.proofs.Common.{◌≡◌, ℕ, Bool, true, false, eqb, ◌≢◌, List, [], ◌∷◌, sym, refl, ◌∙◌}
 use mathlib.Core.Bool.{false≢true}
-use borrow.Author.Tests.{eqb_false}
+use borrow.Author.Tests.{eqb-false}
 use Rattle.model.specs.Mail.{pick}
 use Rattle.model.specs.Device.{Page, Write, set_page, page_at, half, left, flushed}
 use Rattle.model.specs.Promise.{FlushedStays, elsewhere}
@@ -23,7 +23,7 @@ elsewhere_first k q qs = go (eqb q.at k) refl
   where
     go : (b : Bool) → eqb q.at k ≡ b → pick b false (elsewhere k qs) ≡ true → (k ≢ q.at) × (elsewhere k qs ≡ true)
     go true e h = absurd (false≢true h)
-    go false e h = ((λ s. eqb_false q.at k e (sym s)), h)
+    go false e h = ((λ s. eqb-false q.at k e (sym s)), h)
 
 pub left_other : (k : ℕ) (qs : List Write) (ps : List Page) (cs : List ℕ) → elsewhere k qs ≡ true → page_at (left ps qs cs) k ≡ page_at ps k
 unfolding left

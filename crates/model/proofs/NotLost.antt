@@ -1,6 +1,6 @@
 -- No letter gets lost when it is delivered.
 use Rattle.std.proofs.Common.{◌≡◌, ℕ, zero, suc, ◌<◌, true, false, ◌&&◌, eqb, ltb, ◌⊎◌, List, [], ◌∷◌, ◌++◌, length, get_or, sym, refl, ap, ◌∙◌, subst, inl, inr, true≢false, arith, ltb-true, lt-ltb}
-use borrow.Author.Tests.{eqb_false}
+use borrow.Author.Tests.{eqb-false}
 use Rattle.std.proofs.lemmas.Bool.{and_parts, and_from, cases_Bool}
 use Rattle.model.specs.Mail.{pick, every, any, same, none_of, Action, keep, file, away, on_to, mark, halt, Rule, Fate, Letter, fresh, fate, acted, all_acted, ruled, with_new, holds_for, in_box}
 use Rattle.model.specs.House.{House, Person, Box, Way, person_at, set_person, with_boxes, has_box, box_of, set_box, put_letter, put_all, known_boxes, put_here, somebody, way_at, pass_on, deliver, target}
@@ -186,7 +186,7 @@ module _ (n c : ℕ) (t : List ℕ) (lc : c < n) where
       (λ s. inr (inl (record {
         to = d;
         there = ld;
-        other = λ x. absurd (eqb_false d c s x);
+        other = λ x. absurd (eqb-false d c s x);
         letter = record { person = get_or q 1 0; left = m; bytes = t };
         last = ap (λ (v : Way). v.waiting) (way_at_same k.ways d _ (rw (e, lw) ld)) ∙ ap (λ (vs : List Way). (way_at vs d).waiting ++ record { person = get_or q 1 0; left = m; bytes = t } ∷ []) e;
         bytes = refl;

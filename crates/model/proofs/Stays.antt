@@ -1,6 +1,6 @@
 -- Whatever the main promise lets a command leave, or a stop in its middle, can come about.
 use Rattle.std.proofs.Common.{◌≡◌, ℕ, ◌-◌, ◌<◌, Bool, true, not, ◌&&◌, eqb, ltb, List, [], length, get_or, sym, ⊎_elim, arith, length-drop, ltb-true}
-use borrow.Author.Tests.{eqb_false, not_true}
+use borrow.Author.Tests.{eqb-false, not-true}
 use Rattle.std.proofs.lemmas.Bool.{and_parts}
 use Rattle.model.specs.House.{Command, push, House, Plain, Way, yes, no, turn, house_at, set_house, way_at, pushed, can_know, not_taken}
 use Rattle.model.specs.Promise.{Never, KnownTaken, May, Mid, TurnMay, PushMay, IsPush}
@@ -14,7 +14,7 @@ pub push_allowed : (n c : ℕ) (h : House) (d : ℕ) → (turn n c h (push d)).r
 unfolding turn
 push_allowed n c h d =
     pick_cases (λ t. t.reply ≡ 0 → (d < n) × (c ≡ d → Never)) (ltb d n && not (eqb d c)) (yes [] h) (no 5 h)
-    (λ e r. let es = and_parts (ltb d n) (not (eqb d c)) e in (ltb-true d n es.0, λ q. absurd (eqb_false d c (not_true (eqb d c) es.1) (sym q))))
+    (λ e r. let es = and_parts (ltb d n) (not (eqb d c)) e in (ltb-true d n es.0, λ q. absurd (eqb-false d c (not-true (eqb d c) es.1) (sym q))))
     (λ e r. absurd (omega arith))
 
 -- all that waits may be known of once all has come

@@ -1,7 +1,7 @@
 -- What a turn can do to a house: the changes, one by one. What all of them keep, every turn keeps.
 use Rattle.std.proofs.Common.{◌≡◌, ℕ, suc, ◌<◌, Bool, true, false, not, ◌&&◌, eqb, ltb, leb, ◌≢◌, List, [], ◌∷◌, ◌++◌, length, sym, refl, ltb-true}
 use mathlib.Core.Bool.{false≢true}
-use borrow.Author.Tests.{eqb_false}
+use borrow.Author.Tests.{eqb-false}
 use Rattle.std.proofs.lemmas.Bool.{and_parts}
 use Rattle.model.specs.Mail.{or, every, any, those, same, none_of, Letter, Rule, has_mark, in_box}
 use Rattle.model.specs.House.{Command, join, hand_in, boxes, new_box, drop_box, list, get, set_mark, to_box, clear, rules, find, push, House, Box, Out, Turn, turn, person_at, set_person, new_one, at_first, with_people, with_letters, letter_of, marked_so, change_boxes, change_box, here_box, the_box, has_box, known_target, target, deliver, wait_for}
@@ -48,7 +48,7 @@ module _ (P : House → Type 0) (n c : ℕ) (h : House) (k : Changes P n c h) wh
       pick_cases N (ltb d n) _ _
       (λ l. pick_cases N (eqb d c) _ _
       (λ e. pick_both N (ltb a (length h.people)) _ _ (k.delivers a bs) k.none)
-      (λ e. k.waits d _ (ltb-true d n l) (eqb_false d c e)))
+      (λ e. k.waits d _ (ltb-true d n l) (eqb-false d c e)))
       (λ l. k.none)
   turn_keeps (boxes a) = pick_both N (ltb a (length h.people)) _ _ k.none k.none
   turn_keeps (new_box a nm) =

@@ -1,7 +1,7 @@
 -- Laws of words in rows of bytes: how long, how large, there and back; and of parts and patches of long lists of words.
 use Rattle.std.proofs.Common.{◌≡◌, ℕ, zero, suc, ◌+◌, ◌-◌, ◌*◌, ◌/◌, ◌%◌, ◌^◌, ◌<◌, ◌≤◌, Bool, true, false, ◌&&◌, eqb, ltb, List, [], ◌∷◌, ◌++◌, length, get_or, take, drop, set, sym, refl, ap, ◌∙◌, inl, inr, append_assoc, append-nil, suc-add, zero-add, add-one, arith, length-append, length-drop, take-append-drop, length-take, length-take-le, get_or-drop, take_all, get_or-take, take-take, drop-drop, take-add, drop_at}
 use native.Mathlib.Nat.{sub-zero, zero-sub, suc-sub-suc}
-use lib.Seq.{take_append_le, drop_append_le, take_append_seam, set_split}
+use lib.Seq.{take-append-le, drop-append-le, take-append_seam, set_split}
 use borrow.Rule.Slice.PartMut.{put_mid}
 use Rattle.std.proofs.lemmas.List.{nil_from_length, drop_all, drop_more, drop-take, get_or_append_left}
 use Rattle.std.proofs.lemmas.Slice.{between_is, drop-put_mid, take-put_mid, take-put_mid_below}
@@ -248,7 +248,7 @@ words_in_append zero bs rest h = refl
 words_in_append (suc n) bs rest h =
     let l : 8 ≤ length bs = omega arith in
     rw
-    (take_append_le 8 bs rest l, drop_append_le 8 bs rest l)
+    (take-append-le 8 bs rest l, drop-append-le 8 bs rest l)
     (ap (λ r. from_bytes 0 (take 8 bs) ∷ r) (words_in_append n (drop 8 bs) rest (omega (arith, length-drop 8 bs))))
 
 pub words_in_take : (n m : ℕ) (bs : List ℕ) → 8 * n ≤ m → words_in n (take m bs) ≡ words_in n bs
@@ -390,7 +390,7 @@ take_patched_before xs at ws n h k = take-put_mid_below at (length ws) xs ws n k
 
 -- the part that was written, and the parts that were not
 pub part_patched : (xs : List ℕ) (at : ℕ) (ws : List ℕ) → at ≤ length xs → part (patched xs at ws) at (length ws) ≡ ws
-part_patched xs at ws h = rw (drop_patched xs at ws h) (take_append_seam ws (drop (length ws) (drop at xs)))
+part_patched xs at ws h = rw (drop_patched xs at ws h) (take-append_seam ws (drop (length ws) (drop at xs)))
 
 pub part_patched_before : (xs : List ℕ) (at : ℕ) (ws : List ℕ) (b n : ℕ) → at ≤ length xs → b + n ≤ at → part (patched xs at ws) b n ≡ part xs b n
 part_patched_before xs at ws b n h k =
@@ -429,7 +429,7 @@ take_patched (x ∷ xs) (suc at) ws (suc n) h k = ap (λ r. x ∷ r) (take_patch
 
 pub drop_patched_inside : (xs : List ℕ) (a b : ℕ) (ws : List ℕ) → a + b ≤ length xs → drop a (patched xs (a + b) ws) ≡ patched (drop a xs) b ws
 drop_patched_inside xs a b ws h =
-    drop_append_le a (take (a + b) xs) (ws ++ drop (length ws) (drop (a + b) xs)) (omega (arith, length-take (a + b) xs))
+    drop-append-le a (take (a + b) xs) (ws ++ drop (length ws) (drop (a + b) xs)) (omega (arith, length-take (a + b) xs))
     ∙ ap (λ r. r ++ (ws ++ drop (length ws) (drop (a + b) xs))) (drop-take a b xs)
     ∙ ap (λ r. take b (drop a xs) ++ (ws ++ drop (length ws) r)) (sym (drop-drop b a xs))
 

@@ -1,6 +1,6 @@
 -- Each test that fails names its refusal; after all of them there is none.
 use Rattle.std.proofs.Common.{sym, ◌∙◌, inl, inr, arith, eqb-true}
-use borrow.Author.Tests.{eqb_false}
+use borrow.Author.Tests.{eqb-false}
 use Rattle.header.proofs.Entries.{refusal_letter, refusal_name, refusal_row, refusal_none}
 use Rattle.header.proofs.admitted.Goals as goal
 use Rattle.header.proofs.admitted.Goals.{then-is-empty-via-then-is-empty, then-is-empty-via-else-is-empty+then-name-gt-MAX-NAME}
@@ -19,9 +19,9 @@ returns-then-is-empty c =
 pub returns-then-row-letter : goal.returns-then-row-letter
 returns-then-row-letter c =
     refusal_row c.args.letter.now c.args.name.now c.args.row.now c.if-letter-gt-MAX-LETTER.false
-    (omega (arith, eqb_false _ _ (sym c.if-is-empty.ensures))) c.if-name-gt-MAX-NAME.false c.if-row-letter.true
+    (omega (arith, eqb-false _ _ (sym c.if-is-empty.ensures))) c.if-name-gt-MAX-NAME.false c.if-row-letter.true
 
 pub returns : goal.returns
 returns c =
     refusal_none c.args.letter.now c.args.name.now c.args.row.now c.if-letter-gt-MAX-LETTER.false
-    (omega (arith, eqb_false _ _ (sym c.if-is-empty.ensures))) c.if-name-gt-MAX-NAME.false c.if-row-letter.false
+    (omega (arith, eqb-false _ _ (sym c.if-is-empty.ensures))) c.if-name-gt-MAX-NAME.false c.if-row-letter.false

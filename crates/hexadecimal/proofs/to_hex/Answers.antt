@@ -12,12 +12,12 @@ pub loop-b-preserved : goal.loop-b-preserved
 loop-b-preserved c =
     let e = take_more c.args.bytes.now c.loop-b.b-index 0 c.loop-b-test.true in
     let p = hexed_push (take c.loop-b.b-index c.args.bytes.now) (get_or c.args.bytes.now c.loop-b.b-index 0) in
-    let a = c.in-ok-push.ensures.bytes in
-    let b = c.in-ok-push-2.ensures.bytes in
-    let high = c.push.ensures.ascii c.digit-of.ensures.1 in
-    let low = c.push-in-loop-b.ensures.ascii c.digit-of-in-loop-b.ensures.1 in
-    let d = c.digit-of.ensures.0 in
-    let f = c.digit-of-in-loop-b.ensures.0 in
+    let a = c.in_ok-push.ensures.bytes in
+    let b = c.in_ok-push-2.ensures.bytes in
+    let high = c.push.ensures.ascii c.digit_of.ensures.1 in
+    let low = c.push-in-loop-b.ensures.ascii c.digit_of-in-loop-b.ensures.1 in
+    let d = c.digit_of.ensures.0 in
+    let f = c.digit_of-in-loop-b.ensures.0 in
     cc
 
 pub returns : goal.returns

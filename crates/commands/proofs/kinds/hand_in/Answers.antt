@@ -5,5 +5,5 @@ use Rattle.commands.proofs.kinds.hand_in.Goals as goal
 
 pub returns : goal.returns
 returns c =
-    rw (sym c.in-ok-house.ensures, sym c.in-ok-person.ensures, sym c.in-ok-letter.ensures)
-    (complete_answers _ _ c.in-ok-letter.rest.now c.complete.result c.complete.ensures refl)
+    rw (sym c.in_ok-house.ensures, sym c.in_ok-person.ensures, sym c.in_ok-letter.ensures)
+    (complete_answers _ _ c.in_ok-letter.rest.now c.complete.result c.complete.ensures refl)

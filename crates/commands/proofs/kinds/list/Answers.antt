@@ -5,5 +5,5 @@ use Rattle.commands.proofs.kinds.list.Goals as goal
 
 pub returns : goal.returns
 returns c =
-    rw (sym c.in-ok-person.ensures, sym c.in-ok-from.ensures, sym c.in-ok-count.ensures)
-    (complete_answers _ _ c.in-ok-count.rest.now c.complete.result c.complete.ensures refl)
+    rw (sym c.in_ok-person.ensures, sym c.in_ok-from.ensures, sym c.in_ok-count.ensures)
+    (complete_answers _ _ c.in_ok-count.rest.now c.complete.result c.complete.ensures refl)

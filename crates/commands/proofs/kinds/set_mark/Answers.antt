@@ -5,5 +5,5 @@ use Rattle.commands.proofs.kinds.set_mark.Goals as goal
 
 pub returns : goal.returns
 returns c =
-    rw (sym c.in-ok-person.ensures, sym c.in-ok-number.ensures, sym c.in-ok-mark.ensures, sym c.in-ok-on.ensures)
-    (complete_answers _ _ c.in-ok-on.rest.now c.complete.result c.complete.ensures refl)
+    rw (sym c.in_ok-person.ensures, sym c.in_ok-number.ensures, sym c.in_ok-mark.ensures, sym c.in_ok-on.ensures)
+    (complete_answers _ _ c.in_ok-on.rest.now c.complete.result c.complete.ensures refl)

@@ -5,5 +5,5 @@ use Rattle.commands.proofs.kinds.to_box.Goals as goal
 
 pub returns : goal.returns
 returns c =
-    rw (sym c.in-ok-person.ensures, sym c.in-ok-number.ensures, sym c.in-ok-other.ensures)
-    (complete_answers _ _ c.in-ok-other.rest.now c.complete.result c.complete.ensures refl)
+    rw (sym c.in_ok-person.ensures, sym c.in_ok-number.ensures, sym c.in_ok-other.ensures)
+    (complete_answers _ _ c.in_ok-other.rest.now c.complete.result c.complete.ensures refl)

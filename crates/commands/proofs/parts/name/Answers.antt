@@ -4,21 +4,21 @@ use Rattle.commands.specs.Reader.{read_name}
 use Rattle.commands.proofs.Bytes.{all_bytes_typed}
 use Rattle.commands.proofs.Laws.{name_there, name_refused}
 use Rattle.commands.proofs.parts.name.Goals as goal
-use Rattle.commands.proofs.parts.name.Goals.{then-is-empty-via-then-is-empty, then-is-empty-via-else-is-empty+then-name-gt-LONGEST-NAME}
+use Rattle.commands.proofs.parts.name.Goals.{then-is_empty-via-then-is_empty, then-is_empty-via-else-is_empty+then-name-gt-LONGEST_NAME}
 
-pub returns-in-err-name : goal.returns-in-err-name
+pub returns-in_err-name : goal.returns-in_err-name
 unfolding read_name
-returns-in-err-name c = search rules
+returns-in_err-name c = search rules
 
-pub returns-then-is-empty : goal.returns-then-is-empty
-returns-then-is-empty c =
-    name_refused c.args.bytes.now c.in-ok-name.name.now c.in-ok-name.rest.now c.in-ok-name.ensures
-    (elim c.then-is-empty.branch [
-      | then-is-empty-via-then-is-empty w ↦ inl (sym c.is-empty.ensures ∙ w.if-is-empty.true)
-      | then-is-empty-via-else-is-empty+then-name-gt-LONGEST-NAME w ↦ inr w.if-name-gt-LONGEST-NAME.true
+pub returns-then-is_empty : goal.returns-then-is_empty
+returns-then-is_empty c =
+    name_refused c.args.bytes.now c.in_ok-name.name.now c.in_ok-name.rest.now c.in_ok-name.ensures
+    (elim c.then-is_empty.branch [
+      | then-is_empty-via-then-is_empty w ↦ inl (sym c.is_empty.ensures ∙ w.if-is_empty.true)
+      | then-is_empty-via-else-is_empty+then-name-gt-LONGEST_NAME w ↦ inr w.if-name-gt-LONGEST_NAME.true
     ])
 
 pub returns : goal.returns
 returns c =
-    name_there c.args.bytes.now c.in-ok-name.name.now c.in-ok-name.rest.now c.in-ok-name.ensures
-    (all_bytes_typed c.args.bytes.now c.type-inv.bytes) (sym c.if-is-empty.ensures) c.if-name-gt-LONGEST-NAME.false
+    name_there c.args.bytes.now c.in_ok-name.name.now c.in_ok-name.rest.now c.in_ok-name.ensures
+    (all_bytes_typed c.args.bytes.now c.type_inv.bytes) (sym c.if-is_empty.ensures) c.if-name-gt-LONGEST_NAME.false

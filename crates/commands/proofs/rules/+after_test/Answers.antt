@@ -9,33 +9,33 @@ pub returns-then-depth-eq0 : goal.returns-then-depth-eq0
 unfolding read_test
 returns-then-depth-eq0 t c = search rules
 
-pub returns-in-err-kind : goal.returns-in-err-kind
+pub returns-in_err-kind : goal.returns-in_err-kind
 unfolding by_kind
-returns-in-err-kind t c = rw (test_at c.args.depth c.args.bytes.now (omega arith)) (search rules)
+returns-in_err-kind t c = rw (test_at c.args.depth c.args.bytes.now (omega arith)) (search rules)
 
-pub returns-in-err-number : goal.returns-in-err-number
+pub returns-in_err-number-in-3 : goal.returns-in_err-number-in-3
 unfolding by_kind
-returns-in-err-number t c = rw (test_at c.args.depth c.args.bytes.now (omega arith)) (search rules)
+returns-in_err-number-in-3 t c = rw (test_at c.args.depth c.args.bytes.now (omega arith)) (search rules)
 
-pub returns-in-err-mark : goal.returns-in-err-mark
+pub returns-in_err-mark-in-4 : goal.returns-in_err-mark-in-4
 unfolding by_kind
-returns-in-err-mark t c = rw (test_at c.args.depth c.args.bytes.now (omega arith)) (search rules)
+returns-in_err-mark-in-4 t c = rw (test_at c.args.depth c.args.bytes.now (omega arith)) (search rules)
 
-pub returns-in-err-after-test : goal.returns-in-err-after-test
+pub returns-in_err-after_test-in-6 : goal.returns-in_err-after_test-in-6
 unfolding by_kind
-returns-in-err-after-test t c = rw (test_at c.args.depth c.args.bytes.now (omega arith)) (search rules)
+returns-in_err-after_test-in-6 t c = rw (test_at c.args.depth c.args.bytes.now (omega arith)) (search rules)
 
 pub returns-in-0 : goal.returns-in-0
 unfolding by_kind
 returns-in-0 t c = rw (test_at c.args.depth c.args.bytes.now (omega arith)) (search rules)
 
-pub returns-in-ok-number : goal.returns-in-ok-number
+pub returns-in_ok-number-in-3 : goal.returns-in_ok-number-in-3
 unfolding by_kind
-returns-in-ok-number t c = rw (test_at c.args.depth c.args.bytes.now (omega arith)) (search rules)
+returns-in_ok-number-in-3 t c = rw (test_at c.args.depth c.args.bytes.now (omega arith)) (search rules)
 
-pub returns-in-ok-mark : goal.returns-in-ok-mark
+pub returns-in_ok-mark-in-4 : goal.returns-in_ok-mark-in-4
 unfolding by_kind
-returns-in-ok-mark t c = rw (test_at c.args.depth c.args.bytes.now (omega arith)) (search rules)
+returns-in_ok-mark-in-4 t c = rw (test_at c.args.depth c.args.bytes.now (omega arith)) (search rules)
 
 pub returns-in-5 : goal.returns-in-5
 unfolding by_kind
@@ -45,11 +45,11 @@ pub returns-in-1 : goal.returns-in-1
 unfolding by_kind
 returns-in-1 t c = rw (test_at c.args.depth c.args.bytes.now (omega arith)) (search rules)
 
-pub returns-in-ok-after-test : goal.returns-in-ok-after-test
+pub returns-in_ok-after_test-in-6 : goal.returns-in_ok-after_test-in-6
 unfolding by_kind
-returns-in-ok-after-test t c = rw (test_at c.args.depth c.args.bytes.now (omega arith)) (search rules)
+returns-in_ok-after_test-in-6 t c = rw (test_at c.args.depth c.args.bytes.now (omega arith)) (search rules)
 
-pub returns-in-default : goal.returns-in-default
-returns-in-default t c =
+pub returns-in_default : goal.returns-in_default
+returns-in_default t c =
     rw (test_at c.args.depth c.args.bytes.now (omega arith))
-    (sym (ap left_after (no_such_kind _ c.args.bytes.now c.in-ok-kind.kind.now c.in-ok-kind.rest.now c.in-ok-kind.ensures.cases.0 (omega arith))))
+    (sym (ap left_after (no_such_kind _ c.args.bytes.now c.in_ok-kind.kind.now c.in_ok-kind.rest.now c.in_ok-kind.ensures.cases.0 (omega arith))))

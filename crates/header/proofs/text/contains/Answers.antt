@@ -4,9 +4,9 @@ use Rattle.model.specs.Mail.{smalls}
 use Rattle.header.proofs.Small.{holds_here, holds_none, holds_tail}
 use Rattle.header.proofs.text.contains.Goals as goal
 
-pub returns-in-default : goal.returns-in-default
-returns-in-default c =
-    sym (holds_none (smalls c.args.part.now) c.loop-rest.rest.now c.in-default.ensures.cases (sym c.loop-rest-test.ensures)) ∙ c.loop-rest.invariant
+pub returns-in_default : goal.returns-in_default
+returns-in_default c =
+    sym (holds_none (smalls c.args.part.now) c.loop-rest.rest.now c.in_default.ensures.cases (sym c.loop-rest-test.ensures)) ∙ c.loop-rest.invariant
 
 pub loop-rest-preserved : goal.loop-rest-preserved
 loop-rest-preserved c =

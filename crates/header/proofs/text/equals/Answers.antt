@@ -6,7 +6,7 @@ use Rattle.header.proofs.text.equals.Goals as goal
 
 pub returns-then-text-other : goal.returns-then-text-other
 returns-then-text-other c =
-    c.begins-with.ensures
+    c.begins_with.ensures
     ∙ sym (same_starts_with (smalls c.args.other.now) (smalls c.args.text.now) (rw (length_each small c.args.other.now, length_each small c.args.text.now) (sym c.if-text-other.true)))
 
 pub returns-else-text-other : goal.returns-else-text-other

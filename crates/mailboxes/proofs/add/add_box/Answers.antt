@@ -11,8 +11,8 @@ unfolding with_box box_record
 returns c =
     let new = box_record c.args.person c.args.name.now in
     record {
-      fits = c.if-not-has-room.ensures;
+      fits = c.if-not-has_room.ensures;
       written =
-          record_put c.args.words.now c.box-place-at.result c.put-record.new.out new c.put-record.ensures (length_box_record c.args.person c.args.name.now)
-          ∙ ap (λ at. patched c.args.words.now at new) c.box-place-at.ensures;
+          record_put c.args.words.now c.box_place-at.result c.put_record.new.out new c.put_record.ensures (length_box_record c.args.person c.args.name.now)
+          ∙ ap (λ at. patched c.args.words.now at new) c.box_place-at.ensures;
     }

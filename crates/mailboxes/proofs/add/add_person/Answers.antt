@@ -13,10 +13,10 @@ unfolding person_record
 returns c =
     let words = c.args.words.now in
     let nm = c.args.name.now in
-    let put = record_put words c.person-place-at.result c.put-record.new.out (person_record nm) c.put-record.ensures (length_person_record nm)
-    ∙ ap (λ at. patched words at (person_record nm)) c.person-place-at.ensures in
-    let (done, new) = person_added words c.args.people c.args.boxes nm _ c.add-box.new.words c.add-box.result (sym c.if-not-has-room.ensures) put c.add-box.ensures.fits c.add-box.ensures.written in
+    let put = record_put words c.person_place-at.result c.put_record.new.out (person_record nm) c.put_record.ensures (length_person_record nm)
+    ∙ ap (λ at. patched words at (person_record nm)) c.person_place-at.ensures in
+    let (done, new) = person_added words c.args.people c.args.boxes nm _ c.add_box.new.words c.add_box.result (sym c.if-not-has_room.ensures) put c.add_box.ensures.fits c.add_box.ensures.written in
     record {
-      fits = done ∙ c.if-not-has-room.ensures;
+      fits = done ∙ c.if-not-has_room.ensures;
       written = new ∙ ap (λ t. pick t (with_person c.args.people c.args.boxes words nm) words) (sym done);
     }

@@ -4,4 +4,4 @@ use Rattle.mailboxes.proofs.add.first.Goals as goal
 
 pub returns : goal.returns
 unfolding first_directory
-returns c = record { fits = c.add-person.ensures.fits; written = c.add-person.ensures.written }
+returns c = record { fits = c.add_person.ensures.fits; written = c.add_person.ensures.written }

@@ -7,16 +7,16 @@ use Rattle.mailboxes.proofs.row.put_row.Goals as goal
 
 pub returns-then-out-end : goal.returns-then-out-end
 returns-then-out-end c =
-    rw (row_no_room c.args.words.now c.args.at c.args.out.now c.name-len-len.result c.name-len-len.ensures.long c.if-out-end.true) (record { says = refl; written = refl })
+    rw (row_no_room c.args.words.now c.args.at c.args.out.now c.name_len-len.result c.name_len-len.ensures.long c.if-out-end.true) (record { says = refl; written = refl })
 
 pub returns : goal.returns
 returns c =
     let words = c.args.words.now in
     let out = c.args.out.now in
-    let n = c.name-len-len.result in
-    let long : 8 + n + 8 + 8 ≡ length (row_at words c.args.at) = omega (arith, length_row_at words c.args.at, c.name-len-len.ensures.long) in
-    rw (row_room words c.args.at out n c.name-len-len.ensures.long c.if-out-end.false) (record {
+    let n = c.name_len-len.result in
+    let long : 8 + n + 8 + 8 ≡ length (row_at words c.args.at) = omega (arith, length_row_at words c.args.at, c.name_len-len.ensures.long) in
+    rw (row_room words c.args.at out n c.name_len-len.ensures.long c.if-out-end.false) (record {
       says = ap Some long;
-      written = row_written words c.args.at out n c.put-word.new.out c.copy-name.new.out c.put-word-2.new.out c.put-word-3.new.out
-          c.name-len-len.ensures.long c.if-out-end.false c.put-word.ensures c.copy-name.ensures c.put-word-2.ensures c.put-word-3.ensures;
+      written = row_written words c.args.at out n c.put_word.new.out c.copy_name.new.out c.put_word-2.new.out c.put_word-3.new.out
+          c.name_len-len.ensures.long c.if-out-end.false c.put_word.ensures c.copy_name.ensures c.put_word-2.ensures c.put_word-3.ensures;
     })

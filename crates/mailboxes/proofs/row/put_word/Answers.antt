@@ -4,4 +4,4 @@ use Rattle.pages.proofs.Words.{eight_is}
 use Rattle.mailboxes.proofs.row.put_word.Goals as goal
 
 pub returns : goal.returns
-returns c = c.copy-from-slice.ensures.after ∙ c.to-be-bytes.ensures ∙ sym (eight_is c.args.word)
+returns c = c.copy_from_slice.ensures.after ∙ c.to_be_bytes.ensures ∙ sym (eight_is c.args.word)

@@ -11,9 +11,9 @@ loop-i-init c = refl
 
 pub loop-i-preserved : goal.loop-i-preserved
 loop-i-preserved c =
-    take_more_set c.loop-i.words c.loop-i.i c.word-at.result (omega arith)
-    ∙ ap (λ r. r ++ (c.word-at.result ∷ [])) c.loop-i.invariant
-    ∙ ap (λ w. words_in c.loop-i.i c.args.page.now ++ w ∷ []) c.word-at.ensures
+    take_more_set c.loop-i.words c.loop-i.i c.word_at.result (omega arith)
+    ∙ ap (λ r. r ++ (c.word_at.result ∷ [])) c.loop-i.invariant
+    ∙ ap (λ w. words_in c.loop-i.i c.args.page.now ++ w ∷ []) c.word_at.ensures
     ∙ sym (words_in_push c.loop-i.i c.args.page.now)
 
 pub returns : goal.returns

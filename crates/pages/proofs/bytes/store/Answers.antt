@@ -29,11 +29,11 @@ pub loop-i-preserved : goal.loop-i-preserved
 loop-i-preserved c =
     let eight_long : 8 * c.loop-i.i + 8 - 8 * c.loop-i.i ≡ 8 = omega arith in
     ap
-    (λ k. put_mid (8 * c.loop-i.i) k c.loop-i.out c.copy-from-slice.new.self)
+    (λ k. put_mid (8 * c.loop-i.i) k c.loop-i.out c.copy_from_slice.new.self)
     eight_long
     ∙ ap
     (put_mid (8 * c.loop-i.i) 8 c.loop-i.out)
-    (c.copy-from-slice.ensures.after ∙ c.to-be-bytes.ensures ∙ sym (eight_is (get_or c.args.words.now c.loop-i.i 0)))
+    (c.copy_from_slice.ensures.after ∙ c.to_be_bytes.ensures ∙ sym (eight_is (get_or c.args.words.now c.loop-i.i 0)))
     ∙ one_more c.args.words.now c.args.out.now c.loop-i.out c.loop-i.i c.loop-i-test.true c.loop-i.invariant
 
 pub returns : goal.returns

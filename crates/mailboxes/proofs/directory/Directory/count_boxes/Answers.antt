@@ -4,14 +4,14 @@ use Rattle.mailboxes.specs.Directory.{owns, count_up}
 use Rattle.mailboxes.proofs.Compare.{owns_yes, owns_no}
 use Rattle.mailboxes.proofs.Places.{length_count_up, length_those, count_yes, count_no}
 use Rattle.mailboxes.proofs.directory.Directory.count_boxes.Goals as goal
-use Rattle.mailboxes.proofs.directory.Directory.count_boxes.Goals.{then-owner-at-person, else-owner-at-person}
+use Rattle.mailboxes.proofs.directory.Directory.count_boxes.Goals.{then-owner_at-person, else-owner_at-person}
 
 pub loop-index-init : goal.loop-index-init
 unfolding count_up
 loop-index-init c = refl
 
-pub overflow-add-count : goal.overflow-add-count
-overflow-add-count c =
+pub overflow_add-count : goal.overflow_add-count
+overflow_add-count c =
     omega (
       arith,
       length_those (owns c.args.self.now.words.now c.args.person) (count_up 0 c.loop-index.index),
@@ -21,13 +21,13 @@ overflow-add-count c =
 pub loop-index-preserved : goal.loop-index-preserved
 loop-index-preserved c =
     let mine = owns c.args.self.now.words.now c.args.person in
-    elim c.if-owner-at-person.branch [
-      | then-owner-at-person w ↦
-          w.count_is
+    elim c.if-owner_at-person.branch [
+      | then-owner_at-person w ↦
+          w.count-is
           ∙ ap (λ n. n + 1) c.loop-index.invariant
-          ∙ sym (count_yes mine c.loop-index.index (owns_yes c.args.self.now.words.now c.args.person c.loop-index.index c.box_place.result c.owner-at.result c.box_place.ensures c.owner-at.ensures w.if-owner-at-person.true))
-      | else-owner-at-person w ↦
-          w.count_is
+          ∙ sym (count_yes mine c.loop-index.index (owns_yes c.args.self.now.words.now c.args.person c.loop-index.index c.box_place.result c.owner_at.result c.box_place.ensures c.owner_at.ensures w.if-owner_at-person.true))
+      | else-owner_at-person w ↦
+          w.count-is
           ∙ c.loop-index.invariant
-          ∙ sym (count_no mine c.loop-index.index (owns_no c.args.self.now.words.now c.args.person c.loop-index.index c.box_place.result c.owner-at.result c.box_place.ensures c.owner-at.ensures w.if-owner-at-person.false))
+          ∙ sym (count_no mine c.loop-index.index (owns_no c.args.self.now.words.now c.args.person c.loop-index.index c.box_place.result c.owner_at.result c.box_place.ensures c.owner_at.ensures w.if-owner_at-person.false))
     ]

@@ -5,13 +5,13 @@ use Rattle.mailboxes.proofs.Compare.{owns_yes}
 use Rattle.mailboxes.proofs.Places.{first_is, first_none}
 use Rattle.mailboxes.proofs.directory.Directory.next_box.Goals as goal
 
-pub returns-then-owner-at-person : goal.returns-then-owner-at-person
-returns-then-owner-at-person c =
+pub returns-then-owner_at-person : goal.returns-then-owner_at-person
+returns-then-owner_at-person c =
     sym (first_is (owns c.args.self.now.words.now c.args.person) (c.args.self.now.boxes - c.args.from) c.args.from c.loop-index.index (record {
       not_before = omega arith;
       not_past = omega arith;
       passes =
-          owns_yes c.args.self.now.words.now c.args.person c.loop-index.index c.box_place.result c.owner-at.result c.box_place.ensures c.owner-at.ensures c.if-owner-at-person.true;
+          owns_yes c.args.self.now.words.now c.args.person c.loop-index.index c.box_place.result c.owner_at.result c.box_place.ensures c.owner_at.ensures c.if-owner_at-person.true;
       none_earlier = c.loop-index.invariant;
     }))
 

@@ -3,5 +3,5 @@ use Rattle.std.proofs.Common.{arith}
 use Rattle.pages.proofs.Bits.{bit_lt}
 use Rattle.pages.proofs.places.Geometry.table_place.Goals as goal
 
-pub overflow-add-result-3 : goal.overflow-add-result-3
-overflow-add-result-3 c = omega (arith, bit_lt c.args.selectors.now c.args.t, c.bit.ensures)
+pub overflow_add-result-3 : goal.overflow_add-result-3
+overflow_add-result-3 c = omega (arith, bit_lt c.args.selectors.now c.args.t, c.bit.ensures)

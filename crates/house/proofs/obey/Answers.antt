@@ -8,11 +8,11 @@ use Rattle.house.proofs.Acts.{does_as, refused_does}
 use Rattle.house.proofs.Turns.{command_none, command_some, not_known, join_short, new_box_short}
 use Rattle.house.proofs.obey.Goals as goal
 
-pub returns-in-default : goal.returns-in-default
+pub returns-in_default : goal.returns-in_default
 unfolding obeys
-returns-in-default c =
+returns-in_default c =
     refused_does c.args.memory.now c.args.out.now 1 1 refl
-    (ap (λ o. obeys c.args.geometry.now.pages o c.args.memory.now) (command_none (command_of c.args.text.now) c.in-default.ensures.answers))
+    (ap (λ o. obeys c.args.geometry.now.pages o c.args.memory.now) (command_none (command_of c.args.text.now) c.in_default.ensures.answers))
 
 pub join-requires : goal.join-requires
 join-requires c = (
@@ -24,8 +24,8 @@ join-requires c = (
   ),
 )
 
-pub new-box-requires : goal.new-box-requires
-new-box-requires c = (
+pub new_box-requires : goal.new_box-requires
+new_box-requires c = (
   c.requires.0,
   (
     new_box_short c.in-Some.ensures.reads c.args.text.now c.in-NewBox.person c.in-NewBox.name.now
@@ -58,8 +58,8 @@ returns-in-NewBox c =
     (command_some (command_of c.args.text.now) (new_box c.in-NewBox.person c.in-NewBox.name.now) (ap (λ l. Some (meaning l)) (sym c.in-NewBox.is) ∙ c.in-Some.ensures.answers)))
     c.new_box.ensures
 
-pub returns-in-default-command : goal.returns-in-default-command
-returns-in-default-command c =
+pub returns-in_default-command : goal.returns-in_default-command
+returns-in_default-command c =
     refused_does c.args.memory.now c.args.out.now 2 2 refl
     (not_known c.args.geometry.now.pages c.args.memory.now (command_of c.args.text.now) c.in-Some.command c.in-Some.ensures.answers
-    c.in-default-command.not-Join c.in-default-command.not-Boxes c.in-default-command.not-NewBox)
+    c.in_default-command.not-Join c.in_default-command.not-Boxes c.in_default-command.not-NewBox)

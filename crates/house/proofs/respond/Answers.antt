@@ -11,20 +11,20 @@ returns-in-Power c = does_as _ _ _ _ (ap (λ e. stepped c.args.memory.now (event
 
 pub returns-in-Said : goal.returns-in-Said
 unfolding own
-returns-in-Said c = does_as _ _ _ _ (ap (λ e. stepped c.args.memory.now (event_meant e)) c.in-Said.is) c.told-command.ensures
+returns-in-Said c = does_as _ _ _ _ (ap (λ e. stepped c.args.memory.now (event_meant e)) c.in-Said.is) c.told_command.ensures
 
 pub returns-in-Page : goal.returns-in-Page
 unfolding own
-returns-in-Page c = does_as _ _ _ _ (ap (λ e. stepped c.args.memory.now (event_meant e)) c.in-Page.is) (c.told-page.ensures.0, c.told-page.ensures.1 c.args.out.now)
+returns-in-Page c = does_as _ _ _ _ (ap (λ e. stepped c.args.memory.now (event_meant e)) c.in-Page.is) (c.told_page.ensures.0, c.told_page.ensures.1 c.args.out.now)
 
 pub returns-in-Next : goal.returns-in-Next
 unfolding own
-returns-in-Next c = does_as _ _ _ _ (ap (λ e. stepped c.args.memory.now (event_meant e)) c.in-Next.is) c.told-next.ensures
+returns-in-Next c = does_as _ _ _ _ (ap (λ e. stepped c.args.memory.now (event_meant e)) c.in-Next.is) c.told_next.ensures
 
 pub returns-in-Heard : goal.returns-in-Heard
 unfolding own
 returns-in-Heard c =
     elim c.in-Heard.is [
-      | inl h ↦ out_does c.args.memory.now c.args.out.now c.out-of-turn.result c.out-of-turn.ensures (ap (λ e. stepped c.args.memory.now (event_meant e)) h.1)
-      | inr h ↦ out_does c.args.memory.now c.args.out.now c.out-of-turn.result c.out-of-turn.ensures (ap (λ e. stepped c.args.memory.now (event_meant e)) h)
+      | inl h ↦ out_does c.args.memory.now c.args.out.now c.out_of_turn.result c.out_of_turn.ensures (ap (λ e. stepped c.args.memory.now (event_meant e)) h.1)
+      | inr h ↦ out_does c.args.memory.now c.args.out.now c.out_of_turn.result c.out_of_turn.ensures (ap (λ e. stepped c.args.memory.now (event_meant e)) h)
     ]

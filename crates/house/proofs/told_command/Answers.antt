@@ -9,17 +9,17 @@ use Rattle.house.proofs.Acts.{does_as, out_does}
 use Rattle.house.proofs.Turns.{said_refused, said_taken, said_out}
 use Rattle.house.proofs.told_command.Goals as goal
 
-pub returns-in-default : goal.returns-in-default
-returns-in-default c =
-    out_does c.args.memory.now c.args.out.now c.out-of-turn.result c.out-of-turn.ensures (said_refused c.args.memory.now c.args.text.now (sym c.in-default.ensures.known))
+pub returns-in_default : goal.returns-in_default
+returns-in_default c =
+    out_does c.args.memory.now c.args.out.now c.out_of_turn.result c.out_of_turn.ensures (said_refused c.args.memory.now c.args.text.now (sym c.in_default.ensures.known))
 
-pub returns-in-default-load : goal.returns-in-default-load
-returns-in-default-load c =
+pub returns-in_default-load : goal.returns-in_default-load
+returns-in_default-load c =
     let m = c.args.memory.now in
     let P = c.in-Some.geometry.pages in
-    out_does m c.args.out.now c.out-of-turn-in-default-load.result c.out-of-turn-in-default-load.ensures
+    out_does m c.args.out.now c.out_of_turn-in_default-load.result c.out_of_turn-in_default-load.ensures
     (said_taken m P c.load.result c.args.text.now (sym c.in-Some.ensures.known) c.in-Some.ensures.ready.0 c.load.ensures
-    ∙ said_out P c.load.result c.args.text.now m c.in-default-load.not-Idle)
+    ∙ said_out P c.load.result c.args.text.now m c.in_default-load.not-Idle)
 
 pub returns-in-Ok : goal.returns-in-Ok
 unfolding said_told

@@ -6,15 +6,15 @@ use Rattle.house.proofs.Acts.{does_as, out_does, told_flush, told_done}
 use Rattle.house.proofs.Turns.{next_refused, next_taken, next_out}
 use Rattle.house.proofs.told_next.Goals as goal
 
-pub returns-in-default : goal.returns-in-default
-returns-in-default c =
-    out_does c.args.memory.now c.args.out.now c.out-of-turn.result c.out-of-turn.ensures (next_refused c.args.memory.now (sym c.in-default.ensures.known))
+pub returns-in_default : goal.returns-in_default
+returns-in_default c =
+    out_does c.args.memory.now c.args.out.now c.out_of_turn.result c.out_of_turn.ensures (next_refused c.args.memory.now (sym c.in_default.ensures.known))
 
 pub returns-in-ShowBoxes : goal.returns-in-ShowBoxes
 unfolding next_told
 returns-in-ShowBoxes c =
     does_as _ _ _ _ (next_taken c.args.memory.now c.in-Some.geometry.pages (ShowBoxes c.in-ShowBoxes.person c.in-ShowBoxes.from) (sym c.in-Some.ensures.known) c.in-Some.ensures.ready.0 c.in-ShowBoxes.ensures)
-    c.show-box.ensures
+    c.show_box.ensures
 
 pub returns-in-WriteTable : goal.returns-in-WriteTable
 unfolding next_told
@@ -52,10 +52,10 @@ returns-in-Shown c =
     does_as _ _ _ _ (next_taken c.args.memory.now c.in-Some.geometry.pages Shown (sym c.in-Some.ensures.known) c.in-Some.ensures.ready.0 c.in-Shown.ensures)
     (c.store-in-Shown.ensures, told_done c.args.out.now)
 
-pub returns-in-default-load : goal.returns-in-default-load
-returns-in-default-load c =
+pub returns-in_default-load : goal.returns-in_default-load
+returns-in_default-load c =
     let m = c.args.memory.now in
     let P = c.in-Some.geometry.pages in
-    out_does m c.args.out.now c.out-of-turn-in-default-load.result c.out-of-turn-in-default-load.ensures
+    out_does m c.args.out.now c.out_of_turn-in_default-load.result c.out_of_turn-in_default-load.ensures
     (next_taken m P c.load.result (sym c.in-Some.ensures.known) c.in-Some.ensures.ready.0 c.load.ensures
-    ∙ next_out P c.load.result m c.in-default-load.not-ShowBoxes c.in-default-load.not-WriteTable c.in-default-load.not-WriteSelectors c.in-default-load.not-WriteHeader c.in-default-load.not-FlushHeader c.in-default-load.not-Committed c.in-default-load.not-Shown)
+    ∙ next_out P c.load.result m c.in_default-load.not-ShowBoxes c.in_default-load.not-WriteTable c.in_default-load.not-WriteSelectors c.in_default-load.not-WriteHeader c.in_default-load.not-FlushHeader c.in_default-load.not-Committed c.in_default-load.not-Shown)

@@ -6,41 +6,41 @@ use Rattle.house.proofs.Acts.{quietly_as, out_quietly}
 use Rattle.house.proofs.Turns.{page_refused, no_page_refused, page_taken, page_out, page_is, no_page_is}
 use Rattle.house.proofs.told_page.Goals as goal
 
-pub returns-in-default : goal.returns-in-default
-returns-in-default c =
-    out_quietly c.args.memory.now c.out-of-turn.result c.out-of-turn.ensures (page_refused c.args.memory.now c.args.page.now (sym c.in-default.ensures.known))
+pub returns-in_default : goal.returns-in_default
+returns-in_default c =
+    out_quietly c.args.memory.now c.out_of_turn.result c.out_of_turn.ensures (page_refused c.args.memory.now c.args.page.now (sym c.in_default.ensures.known))
 
-pub returns-then-page-ne-PAGE-LEN : goal.returns-then-page-ne-PAGE-LEN
-returns-then-page-ne-PAGE-LEN c =
-    out_quietly c.args.memory.now c.out-of-turn-then-page-ne-PAGE-LEN.result c.out-of-turn-then-page-ne-PAGE-LEN.ensures
-    (no_page_refused c.args.memory.now c.args.page.now (sym c.in-Some.ensures.known) (no_page_is c.args.page.now c.if-page-ne-PAGE-LEN.true))
+pub returns-then-page-ne-PAGE_LEN : goal.returns-then-page-ne-PAGE_LEN
+returns-then-page-ne-PAGE_LEN c =
+    out_quietly c.args.memory.now c.out_of_turn-then-page-ne-PAGE_LEN.result c.out_of_turn-then-page-ne-PAGE_LEN.ensures
+    (no_page_refused c.args.memory.now c.args.page.now (sym c.in-Some.ensures.known) (no_page_is c.args.page.now c.if-page-ne-PAGE_LEN.true))
 
 pub returns-in-ReadHeader : goal.returns-in-ReadHeader
 unfolding page_told
 returns-in-ReadHeader c =
     quietly_as _ _ (page_taken c.args.memory.now c.in-Some.geometry.pages ReadHeader c.args.page.now (sym c.in-Some.ensures.known)
-    (page_is c.args.page.now c.if-page-ne-PAGE-LEN.false (λ i. omega (arith, c.type-inv.page i))) c.in-Some.ensures.ready.0 c.in-ReadHeader.ensures)
-    c.header-read.ensures
+    (page_is c.args.page.now c.if-page-ne-PAGE_LEN.false (λ i. omega (arith, c.type_inv.page i))) c.in-Some.ensures.ready.0 c.in-ReadHeader.ensures)
+    c.header_read.ensures
 
 pub returns-in-ReadSelectors : goal.returns-in-ReadSelectors
 unfolding page_told
 returns-in-ReadSelectors c =
     quietly_as _ _ (page_taken c.args.memory.now c.in-Some.geometry.pages (ReadSelectors c.in-ReadSelectors.q) c.args.page.now (sym c.in-Some.ensures.known)
-    (page_is c.args.page.now c.if-page-ne-PAGE-LEN.false (λ i. omega (arith, c.type-inv.page i))) c.in-Some.ensures.ready.0 c.in-ReadSelectors.ensures)
+    (page_is c.args.page.now c.if-page-ne-PAGE_LEN.false (λ i. omega (arith, c.type_inv.page i))) c.in-Some.ensures.ready.0 c.in-ReadSelectors.ensures)
     c.selectors_read.ensures
 
 pub returns-in-ReadDirectory : goal.returns-in-ReadDirectory
 unfolding page_told
 returns-in-ReadDirectory c =
     quietly_as _ _ (page_taken c.args.memory.now c.in-Some.geometry.pages (ReadDirectory c.in-ReadDirectory.t) c.args.page.now (sym c.in-Some.ensures.known)
-    (page_is c.args.page.now c.if-page-ne-PAGE-LEN.false (λ i. omega (arith, c.type-inv.page i))) c.in-Some.ensures.ready.0 c.in-ReadDirectory.ensures)
+    (page_is c.args.page.now c.if-page-ne-PAGE_LEN.false (λ i. omega (arith, c.type_inv.page i))) c.in-Some.ensures.ready.0 c.in-ReadDirectory.ensures)
     c.directory_read.ensures
 
-pub returns-in-default-load : goal.returns-in-default-load
-returns-in-default-load c =
+pub returns-in_default-load : goal.returns-in_default-load
+returns-in_default-load c =
     let m = c.args.memory.now in
     let p = c.args.page.now in
     let P = c.in-Some.geometry.pages in
-    out_quietly m c.out-of-turn-in-default-load.result c.out-of-turn-in-default-load.ensures
-    (page_taken m P c.load.result p (sym c.in-Some.ensures.known) (page_is p c.if-page-ne-PAGE-LEN.false (λ i. omega (arith, c.type-inv.page i))) c.in-Some.ensures.ready.0 c.load.ensures
-    ∙ page_out P c.load.result p m c.in-default-load.not-ReadHeader c.in-default-load.not-ReadSelectors c.in-default-load.not-ReadDirectory)
+    out_quietly m c.out_of_turn-in_default-load.result c.out_of_turn-in_default-load.ensures
+    (page_taken m P c.load.result p (sym c.in-Some.ensures.known) (page_is p c.if-page-ne-PAGE_LEN.false (λ i. omega (arith, c.type_inv.page i))) c.in-Some.ensures.ready.0 c.load.ensures
+    ∙ page_out P c.load.result p m c.in_default-load.not-ReadHeader c.in_default-load.not-ReadSelectors c.in_default-load.not-ReadDirectory)

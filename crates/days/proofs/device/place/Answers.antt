@@ -2,9 +2,9 @@ use Rattle.std.proofs.Common.{sym, inl, inr}
 use Rattle.days.proofs.Pages.{put_placed, placed_away, placed_long}
 use Rattle.days.proofs.device.place.Goals as goal
 
-pub returns-then-bytes-le-PAGE-LEN : goal.returns-then-bytes-le-PAGE-LEN
-returns-then-bytes-le-PAGE-LEN c =
-    put_placed _ _ _ _ c.if-page-pages.true c.if-bytes-le-PAGE-LEN.true c.copy-from-slice.ensures.after
+pub returns-then-bytes-le-PAGE_LEN : goal.returns-then-bytes-le-PAGE_LEN
+returns-then-bytes-le-PAGE_LEN c =
+    put_placed _ _ _ _ c.if-page-pages.true c.if-bytes-le-PAGE_LEN.true c.copy_from_slice.ensures.after
 
 pub returns-else-page-pages : goal.returns-else-page-pages
 returns-else-page-pages c =

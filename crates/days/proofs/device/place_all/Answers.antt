@@ -8,7 +8,7 @@ pub loop-write-preserved : goal.loop-write-preserved
 loop-write-preserved c =
     let w = c.write-item.result in
     let put : c.place.new.pages ≡ placed c.loop-write.pages w.page (vec_items w.bytes) =
-    c.place.ensures ∙ ap (placed c.loop-write.pages w.page) c.as-slice.ensures.value in
+    c.place.ensures ∙ ap (placed c.loop-write.pages w.page) c.as_slice.ensures.value in
     c.loop-write.invariant ∙ all_placed_more c.loop-write.pages c.args.writes.now c.loop-write.write-index w c.loop-write-test.true c.write-item.is
     ∙ ap (λ ps. all_placed ps (drop (c.loop-write.write-index + 1) c.args.writes.now)) (sym put)
 

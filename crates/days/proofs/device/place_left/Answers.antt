@@ -10,7 +10,7 @@ loop-i-preserved c =
     let w = c.index-writes-i.result in
     let d = get_or c.args.choices.now c.loop-i.i Nothing in
     let put : c.place.new.pages ≡ placed c.loop-i.pages w.page (kept d (vec_items w.bytes)) =
-    c.place.ensures ∙ ap (placed c.loop-i.pages w.page) (c.kept-of.ensures ∙ ap (kept d) c.as-slice.ensures.value) in
+    c.place.ensures ∙ ap (placed c.loop-i.pages w.page) (c.kept_of.ensures ∙ ap (kept d) c.as_slice.ensures.value) in
     c.loop-i.invariant
     ∙ all_left_more c.loop-i.pages c.args.writes.now c.args.choices.now c.loop-i.i w d c.loop-i-test.true c.index-writes-i.is
     c.if-i-choices.false (get_or_default _ _ _ _ c.if-i-choices.false)

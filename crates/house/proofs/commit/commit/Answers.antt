@@ -5,12 +5,12 @@ use Rattle.house.specs.Machine.{commit}
 use Rattle.house.proofs.Touches.{next_is, next_below}
 use Rattle.house.proofs.commit.commit.Goals as goal
 
-pub write-table-requires : goal.write-table-requires
-write-table-requires c = (
+pub write_table-requires : goal.write_table-requires
+write_table-requires c = (
   c.requires.0,
   (
-    next_below c.args.geometry.now.pages c.args.memory.now c.args.from c.selector-words-words.result c.directory_pages.result c.in-Some.t (Some c.in-Some.t)
-        c.selector-words-words.ensures.is c.directory_pages.ensures c.in-Some.ensures refl,
+    next_below c.args.geometry.now.pages c.args.memory.now c.args.from c.selector_words-words.result c.directory_pages.result c.in-Some.t (Some c.in-Some.t)
+        c.selector_words-words.ensures.is c.directory_pages.ensures c.in-Some.ensures refl,
     c.requires.1.1,
   ),
 )
@@ -18,11 +18,11 @@ write-table-requires c = (
 pub returns-in-None : goal.returns-in-None
 unfolding commit
 returns-in-None c =
-    rw (sym (next_is c.args.geometry.now.pages c.args.memory.now c.args.from c.selector-words-words.result c.directory_pages.result None
-    c.selector-words-words.ensures.is c.directory_pages.ensures c.in-None.ensures)) c.write-selectors.ensures
+    rw (sym (next_is c.args.geometry.now.pages c.args.memory.now c.args.from c.selector_words-words.result c.directory_pages.result None
+    c.selector_words-words.ensures.is c.directory_pages.ensures c.in-None.ensures)) c.write_selectors.ensures
 
 pub returns-in-Some : goal.returns-in-Some
 unfolding commit
 returns-in-Some c =
-    rw (sym (next_is c.args.geometry.now.pages c.args.memory.now c.args.from c.selector-words-words.result c.directory_pages.result (Some c.in-Some.t)
-    c.selector-words-words.ensures.is c.directory_pages.ensures c.in-Some.ensures)) c.write-table.ensures
+    rw (sym (next_is c.args.geometry.now.pages c.args.memory.now c.args.from c.selector_words-words.result c.directory_pages.result (Some c.in-Some.t)
+    c.selector_words-words.ensures.is c.directory_pages.ensures c.in-Some.ensures)) c.write_table.ensures

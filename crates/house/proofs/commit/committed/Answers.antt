@@ -8,18 +8,18 @@ use Rattle.house.specs.Machine.{committed}
 use Rattle.house.proofs.Acts.{told_done, told_shows}
 use Rattle.house.proofs.commit.committed.Goals as goal
 
-pub returns-then-to-show-eq0 : goal.returns-then-to-show-eq0
+pub returns-then-to_show-eq0 : goal.returns-then-to_show-eq0
 unfolding committed
-returns-then-to-show-eq0 c =
-    rw (eq-eqb (to_show c.args.memory.now) 0 c.if-to-show-eq0.true)
-    (c.store.ensures ∙ ap (in_phase Idle) c.count-coming.ensures, told_done c.args.out.now)
+returns-then-to_show-eq0 c =
+    rw (eq-eqb (to_show c.args.memory.now) 0 c.if-to_show-eq0.true)
+    (c.store.ensures ∙ ap (in_phase Idle) c.count_coming.ensures, told_done c.args.out.now)
 
 pub returns : goal.returns
 unfolding committed in_bytes
 returns c =
     let n = to_show c.args.memory.now - 1 in
-    let bytes = c.copy-from-slice.ensures.after ∙ c.to-be-bytes.ensures ∙ sym (eight_is n) in
-    rw (ne_eqb (to_show c.args.memory.now) 0 c.if-to-show-eq0.false) (
-      c.store-2.ensures ∙ ap (in_phase Shown) c.count-coming.ensures,
+    let bytes = c.copy_from_slice.ensures.after ∙ c.to_be_bytes.ensures ∙ sym (eight_is n) in
+    rw (ne_eqb (to_show c.args.memory.now) 0 c.if-to_show-eq0.false) (
+      c.store-2.ensures ∙ ap (in_phase Shown) c.count_coming.ensures,
       told_shows 8 (eight n) c.args.out.now _ refl (ap (λ r. r ++ drop 8 c.args.out.now) bytes),
     )

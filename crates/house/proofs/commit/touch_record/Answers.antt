@@ -4,5 +4,5 @@ use Rattle.house.proofs.commit.touch_record.Goals as goal
 
 pub returns : goal.returns
 returns c =
-    record_touched c.args.geometry.now.pages c.args.at c.args.memory.now c.touch-page.new.memory c.touch-page-2.new.memory c.args.geometry.now.most c.requires.0
-    c.touch-page.ensures c.touch-page-2.ensures
+    record_touched c.args.geometry.now.pages c.args.at c.args.memory.now c.touch_page.new.memory c.touch_page-2.new.memory c.args.geometry.now.most c.requires.0
+    c.touch_page.ensures c.touch_page-2.ensures

@@ -7,9 +7,9 @@ use Rattle.house.proofs.Acts.{some_place, no_place, told_write}
 use Rattle.house.proofs.Writes.{lent_part, stored}
 use Rattle.house.proofs.commit.write_table.Goals as goal
 
-pub returns-in-default : goal.returns-in-default
-returns-in-default c =
-    absurd (no_place (ltb c.args.t (table_pages c.args.geometry.now.pages)) _ (lt-ltb c.args.t (table_pages c.args.geometry.now.pages) (omega arith)) c.in-default.ensures)
+pub returns-in_default : goal.returns-in_default
+returns-in_default c =
+    absurd (no_place (ltb c.args.t (table_pages c.args.geometry.now.pages)) _ (lt-ltb c.args.t (table_pages c.args.geometry.now.pages) (omega arith)) c.in_default.ensures)
 
 pub returns : goal.returns
 returns c =
@@ -21,6 +21,6 @@ returns c =
       c.store-2.ensures,
       told_write (table_place P (part m 1184 (64 * selector_pages P)) t) c.in-Some.place (bytes_of (part m (2272 + 64 * t) 64)) c.args.out.now c.store.new.out
           (some_place (ltb t (table_pages P)) _ c.in-Some.place (lt-ltb t (table_pages P) here) c.in-Some.ensures
-          ∙ ap (λ ws. table_place P ws t) (lent_part m 1184 c.selector-words-words.result (64 * selector_pages P) c.selector-words-words.ensures.is))
+          ∙ ap (λ ws. table_place P ws t) (lent_part m 1184 c.selector_words-words.result (64 * selector_pages P) c.selector_words-words.ensures.is))
           (stored m c.args.out.now c.store.new.out (2272 + 64 * t) 64 c.store.result _ (lent_part m (2272 + 64 * t) 64 64 refl) (omega arith) (omega arith) c.store.ensures.fits c.store.ensures.written),
     )

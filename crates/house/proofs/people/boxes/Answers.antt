@@ -17,4 +17,4 @@ pub returns : goal.returns
 returns c =
     let m = c.args.memory.now in
     does_as _ _ _ _ (ap (λ t. pick t (shows_boxes c.args.geometry.now.pages c.args.person 0 m) (refuse 3 m)) (lt-ltb c.args.person (people_of m) c.if-person-memory.false))
-    c.show-box.ensures
+    c.show_box.ensures

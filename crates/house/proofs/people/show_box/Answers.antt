@@ -8,15 +8,15 @@ use Rattle.house.proofs.Acts.{does_as, some_place, no_place, told_done, told_sho
 use Rattle.house.proofs.Joins.{box_next, next_fits, shows_none, shows_some}
 use Rattle.house.proofs.people.show_box.Goals as goal
 
-pub returns-in-default : goal.returns-in-default
-returns-in-default c =
+pub returns-in_default : goal.returns-in_default
+returns-in_default c =
     does_as _ _ _ _
-    (shows_none c.args.geometry.now.pages c.args.person c.args.from c.args.memory.now (box_next _ _ _ _ _ c.directory-directory.ensures c.args.person c.args.from None c.in-default.ensures))
+    (shows_none c.args.geometry.now.pages c.args.person c.args.from c.args.memory.now (box_next _ _ _ _ _ c.directory-directory.ensures c.args.person c.args.from None c.in_default.ensures))
     (c.store.ensures, told_done c.args.out.now)
 
-pub returns-in-default-box-row : goal.returns-in-default-box-row
-returns-in-default-box-row c =
-    absurd (no_place _ _ (next_fits _ _ c.args.person c.args.from c.in-Some.index c.args.out.now c.requires.1 c.in-Some.ensures) c.in-default-box-row.ensures.says)
+pub returns-in_default-box_row : goal.returns-in_default-box_row
+returns-in_default-box_row c =
+    absurd (no_place _ _ (next_fits _ _ c.args.person c.args.from c.in-Some.index c.args.out.now c.requires.1 c.in-Some.ensures) c.in_default-box_row.ensures.says)
 
 pub returns : goal.returns
 returns c =
@@ -30,7 +30,7 @@ returns c =
     let row : box_row (box_of words i) ≡ box_row (box_of (directory_of P m) i) = ap (λ ws. box_row (box_of ws i)) c.directory-directory.ensures.words_are in
     does_as _ _ _ _ (shows_some P c.args.person c.args.from m i (box_next _ _ _ _ _ c.directory-directory.ensures c.args.person c.args.from (Some i) c.in-Some.ensures)) (
       c.store-2.ensures,
-      told_shows c.in-Some-box-row.len (box_row (box_of (directory_of P m) i)) out c.box_row.new.out
-          (some_place _ _ c.in-Some-box-row.len fits c.in-Some-box-row.ensures.says ∙ ap length row)
-          (c.in-Some-box-row.ensures.written ∙ ap (λ t. row_over t (box_row (box_of words i)) out) fits ∙ ap (λ r. r ++ drop (length r) out) row),
+      told_shows c.in-Some-box_row.len (box_row (box_of (directory_of P m) i)) out c.box_row.new.out
+          (some_place _ _ c.in-Some-box_row.len fits c.in-Some-box_row.ensures.says ∙ ap length row)
+          (c.in-Some-box_row.ensures.written ∙ ap (λ t. row_over t (box_row (box_of words i)) out) fits ∙ ap (λ r. r ++ drop (length r) out) row),
     )

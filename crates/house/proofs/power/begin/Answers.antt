@@ -12,16 +12,16 @@ pub returns-then-house-houses : goal.returns-then-house-houses
 returns-then-house-houses c =
     refused_quietly c.args.memory.now 1 c.number.result c.number.ensures (power_no_house c.args.house c.args.houses c.args.pages c.args.memory.now c.requires c.then-house-houses.either)
 
-pub returns-then-is-none : goal.returns-then-is-none
-returns-then-is-none c =
-    refused_quietly c.args.memory.now 1 c.number-then-is-none.result c.number-then-is-none.ensures
-    (power_no_size c.args.house c.args.houses c.args.pages c.args.memory.now c.requires (omega arith) (omega arith) (sym c.of.ensures.known ∙ c.if-is-none.ensures))
+pub returns-then-is_none : goal.returns-then-is_none
+returns-then-is_none c =
+    refused_quietly c.args.memory.now 1 c.number-then-is_none.result c.number-then-is_none.ensures
+    (power_no_size c.args.house c.args.houses c.args.pages c.args.memory.now c.requires (omega arith) (omega arith) (sym c.of.ensures.known ∙ c.if-is_none.ensures))
 
 pub returns : goal.returns
 returns c =
     let m = c.args.memory.now in
     let told = c.args.house ∷ c.args.houses ∷ c.args.pages ∷ 0 ∷ [] in
-    quietly_as _ _ (power_taken c.args.house c.args.houses c.args.pages m c.requires (omega arith) (omega arith) (sym c.of.ensures.known ∙ c.if-is-none.ensures)) (
-      ap (λ l. put_mid 3 4 l c.copy-from-slice.new.self) c.store.ensures ∙ ap (put_mid 3 4 (in_phase ReadHeader m)) c.copy-from-slice.ensures.after ∙ patched_next m 0 (1 ∷ 0 ∷ 0 ∷ []) told (omega arith),
+    quietly_as _ _ (power_taken c.args.house c.args.houses c.args.pages m c.requires (omega arith) (omega arith) (sym c.of.ensures.known ∙ c.if-is_none.ensures)) (
+      ap (λ l. put_mid 3 4 l c.copy_from_slice.new.self) c.store.ensures ∙ ap (put_mid 3 4 (in_phase ReadHeader m)) c.copy_from_slice.ensures.after ∙ patched_next m 0 (1 ∷ 0 ∷ 0 ∷ []) told (omega arith),
       told_read 0 0 refl,
     )

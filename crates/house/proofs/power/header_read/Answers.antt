@@ -18,16 +18,16 @@ returns-then-header-eq0 c =
     let p = c.args.page.now in
     let words : c.load.new.words ≡ words_in 32 p = header_loaded p c.load.result _ c.load.new.words c.requires.1.1 c.load.ensures.fits c.load.ensures.read in
     quietly_as _ _ (header_none c.args.geometry.now.pages p c.args.memory.now (ap (λ l. get_or l 0 0) (sym words) ∙ c.if-header-eq0.true))
-    (c.store.ensures ∙ ap (in_phase Idle) c.make-first-house.ensures, told_done)
+    (c.store.ensures ∙ ap (in_phase Idle) c.make_first_house.ensures, told_done)
 
-pub returns-in-default : goal.returns-in-default
-returns-in-default c =
+pub returns-in_default : goal.returns-in_default
+returns-in_default c =
     let p = c.args.page.now in
     let P = c.args.geometry.now.pages in
     let words : c.load.new.words ≡ words_in 32 p = header_loaded p c.load.result _ c.load.new.words c.requires.1.1 c.load.ensures.fits c.load.ensures.read in
     refused_quietly c.args.memory.now 1 c.number.result c.number.ensures
     (header_wrong P p c.args.memory.now (λ e. c.if-header-eq0.false (ap (λ l. get_or l 0 0) words ∙ e))
-    (ap (λ l. ltb (get_or l 1 0) 2) (sym words) ∙ no_area (ltb (get_or c.load.new.words 1 0) 2) (ltb 0 (selector_pages P)) (lt-ltb 0 (selector_pages P) (selector_pages_some P)) (none_test _ _ c.in-default.ensures)))
+    (ap (λ l. ltb (get_or l 1 0) 2) (sym words) ∙ no_area (ltb (get_or c.load.new.words 1 0) 2) (ltb 0 (selector_pages P)) (lt-ltb 0 (selector_pages P) (selector_pages_some P)) (none_test _ _ c.in_default.ensures)))
 
 pub returns : goal.returns
 returns c =
@@ -38,6 +38,6 @@ returns c =
     let there = some_test (ltb (get_or c.load.new.words 1 0) 2 && ltb 0 (selector_pages P)) _ c.in-Some.place c.in-Some.ensures in
     quietly_as _ _ (header_right P p m (λ e. c.if-header-eq0.false (ap (λ l. get_or l 0 0) words ∙ e))
     (ap (λ l. ltb (get_or l 1 0) 2) (sym words) ∙ (and_parts (ltb (get_or c.load.new.words 1 0) 2) (ltb 0 (selector_pages P)) there).0)) (
-      c.store-2.ensures ∙ ap (in_phase (ReadSelectors 0)) (ap (put_mid 64 32 m) (c.copy-from-slice.ensures.after ∙ words) ∙ put_part m 64 32 (words_in 32 p) (length_words_in 32 p)),
+      c.store-2.ensures ∙ ap (in_phase (ReadSelectors 0)) (ap (put_mid 64 32 m) (c.copy_from_slice.ensures.after ∙ words) ∙ put_part m 64 32 (words_in 32 p) (length_words_in 32 p)),
       told_read (selector_place P (get_or (words_in 32 p) 1 0) 0) c.in-Some.place (some_place _ _ c.in-Some.place there c.in-Some.ensures ∙ ap (λ l. selector_place P (get_or l 1 0) 0) words),
     )

@@ -14,7 +14,7 @@ returns c =
     let m = c.args.memory.now in
     let P = c.args.geometry.now.pages in
     let hs : List ℕ = 1 ∷ 0 ∷ 1 ∷ 1 ∷ 0 ∷ 0 ∷ (776 + 64 * houses_count m) ∷ [] in
-    let headed : put_mid 64 7 m c.copy-from-slice.new.self ≡ patched m 64 hs = ap (put_mid 64 7 m) c.copy-from-slice.ensures.after in
-    let directed = first_written m (put_mid 64 7 m c.copy-from-slice.new.self) hs (64 * directory_pages P) c.directory-words.result c.first.result c.first.new.words
-    c.requires.0 c.directory-words.ensures.is c.directory-words.ensures.some c.directory-words.ensures.most refl headed c.first.ensures.fits c.first.ensures.written in
-    c.touch-record-2.ensures ∙ ap (touch_record P 864) (c.touch_record.ensures ∙ ap (touch_record P 0) directed)
+    let headed : put_mid 64 7 m c.copy_from_slice.new.self ≡ patched m 64 hs = ap (put_mid 64 7 m) c.copy_from_slice.ensures.after in
+    let directed = first_written m (put_mid 64 7 m c.copy_from_slice.new.self) hs (64 * directory_pages P) c.directory_words.result c.first.result c.first.new.words
+    c.requires.0 c.directory_words.ensures.is c.directory_words.ensures.some c.directory_words.ensures.most refl headed c.first.ensures.fits c.first.ensures.written in
+    c.touch_record-2.ensures ∙ ap (touch_record P 864) (c.touch_record.ensures ∙ ap (touch_record P 0) directed)

@@ -7,9 +7,9 @@ use Rattle.days.proofs.device.Device.flush.Goals as goal
 
 pub returns : goal.returns
 returns c =
-    let long : length c.place-all.new.pages ≡ c.args.self.now.pages.len =
-    omega (arith, c.place-all.auto.pages, ap length c.as-mut-slice.ensures.value, c.args.self.now.pages.ok.0) in
+    let long : length c.place_all.new.pages ≡ c.args.self.now.pages.len =
+    omega (arith, c.place_all.auto.pages, ap length c.as_mut_slice.ensures.value, c.args.self.now.pages.ok.0) in
     device_same
-    (ap cut_whole (with_items_is c.args.self.now.pages c.place-all.new.pages long)
-    ∙ after_flush _ _ _ _ _ c.place-all.ensures c.as-mut-slice.ensures.value c.as-slice.ensures.value)
+    (ap cut_whole (with_items_is c.args.self.now.pages c.place_all.new.pages long)
+    ∙ after_flush _ _ _ _ _ c.place_all.ensures c.as_mut_slice.ensures.value c.as_slice.ensures.value)
     (ap (each write_of) c.clear.ensures.items)

@@ -7,9 +7,9 @@ use Rattle.days.proofs.device.Device.stop.Goals as goal
 
 pub returns : goal.returns
 returns c =
-    let long : length c.place-left.new.pages ≡ c.args.self.now.pages.len =
-    omega (arith, c.place-left.auto.pages, ap length c.as-mut-slice.ensures.value, c.args.self.now.pages.ok.0) in
+    let long : length c.place_left.new.pages ≡ c.args.self.now.pages.len =
+    omega (arith, c.place_left.auto.pages, ap length c.as_mut_slice.ensures.value, c.args.self.now.pages.ok.0) in
     device_same
-    (ap cut_whole (with_items_is c.args.self.now.pages c.place-left.new.pages long)
-    ∙ after_stop _ _ _ _ _ _ c.place-left.ensures c.as-mut-slice.ensures.value c.as-slice.ensures.value)
+    (ap cut_whole (with_items_is c.args.self.now.pages c.place_left.new.pages long)
+    ∙ after_stop _ _ _ _ _ _ c.place_left.ensures c.as_mut_slice.ensures.value c.as_slice.ensures.value)
     (ap (each write_of) c.clear.ensures.items)

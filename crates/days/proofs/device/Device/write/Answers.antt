@@ -10,8 +10,8 @@ pub returns : goal.returns
 returns c =
     let there : c.args.page < length (cut_whole (vec_items c.args.self.now.pages)) = omega (arith, c.if-page-pages.false, c.pages.ensures.value) in
     let row : List Write → Write → List Write = λ qs q. qs ++ q ∷ [] in (
-      sym (and_from _ _ (lt-ltb _ _ there) (eq-eqb _ _ c.if-bytes-ne-PAGE-LEN.false)),
+      sym (and_from _ _ (lt-ltb _ _ there) (eq-eqb _ _ c.if-bytes-ne-PAGE_LEN.false)),
       device_same refl
-          (ap (each write_of) c.in-ok-push.ensures.items ∙ each_push write_of _ _
-          ∙ ap (λ bs. row (each write_of (vec_items c.args.self.now.waiting)) (record { at = c.args.page; page = bs })) c.in-ok-bytes.ensures.items),
+          (ap (each write_of) c.in_ok-push.ensures.items ∙ each_push write_of _ _
+          ∙ ap (λ bs. row (each write_of (vec_items c.args.self.now.waiting)) (record { at = c.args.page; page = bs })) c.in_ok-bytes.ensures.items),
     )

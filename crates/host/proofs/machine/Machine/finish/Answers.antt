@@ -11,5 +11,5 @@ returns-in-No g c = record { ends = c.loop.invariant.1 _ _ _ _ (ends_refused _ _
 pub loop-preserved : goal.loop-preserved
 loop-preserved g c = (
   c.act.ensures.size ∙ c.loop.invariant.0,
-  λ end m' d' r' h. c.loop.invariant.1 end m' d' r' (earlier _ _ _ _ _ m' _ _ d' _ _ r' end _ h c.loop.told c.in-ok-told.ensures.after),
+  λ end m' d' r' h. c.loop.invariant.1 end m' d' r' (earlier _ _ _ _ _ m' _ _ d' _ _ r' end _ h c.loop.told c.in_ok-told-in_default.ensures.after),
 )

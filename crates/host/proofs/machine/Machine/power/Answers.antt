@@ -6,7 +6,7 @@ use Rattle.host.proofs.machine.Machine.power.Goals as goal
 pub returns : goal.returns
 returns g c = record {
   goes = IfOk-weaker c.finish.result _ _
-      (λ e h. wakes _ _ _ _ _ _ _ _ _ _ _ _ e c.args.house c.args.houses _ _ (at_start _ _ (c.fill.ensures.items (λ y q. q)) (omega arith)) c.power-bytes.ensures c.pages.ensures
+      (λ e h. wakes _ _ _ _ _ _ _ _ _ _ _ _ e c.args.house c.args.houses _ _ (at_start _ _ (c.fill.ensures.items (λ y q. q)) (omega arith)) c.power_bytes.ensures c.pages.ensures
       c.tell-first.ensures h)
       c.finish.ensures.ends;
   size = c.finish.ensures.size;

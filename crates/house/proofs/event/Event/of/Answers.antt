@@ -5,7 +5,7 @@ use Rattle.house.proofs.event.Event.of.Goals as goal
 
 pub returns-in-0 : goal.returns-in-0
 unfolding event_of
-returns-in-0 c = (omega arith, rw (c.in-0.is, c.number.ensures, c.number-in-0.ensures, c.number-in-0-2.ensures, c.eight-from.ensures, c.eight-from-in-0.ensures, c.eight-from-in-0-2.ensures))
+returns-in-0 c = (omega arith, rw (c.in-0.is, c.number.ensures, c.number-in-0.ensures, c.number-in-0-2.ensures, c.eight_from.ensures, c.eight_from-in-0.ensures, c.eight_from-in-0-2.ensures))
 
 pub returns-in-1 : goal.returns-in-1
 unfolding event_of

@@ -1,5 +1,5 @@
 use Rattle.std.proofs.Common.{refl}
-use Rattle.model.specs.House.{Command, join, hand_in, boxes, new_box, drop_box, list, get, set_mark, to_box, clear, rules, find, push, core}
+use Rattle.model.specs.House.{join, hand_in, boxes, new_box, drop_box, list, get, set_mark, to_box, clear, rules, find, push, core}
 use Rattle.model.specs.Known.{nothing, also, CoreFromNothing}
 
 pub core_from_nothing : CoreFromNothing

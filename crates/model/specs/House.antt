@@ -1,6 +1,6 @@
 -- Commands, how they are spelled, and the plain houses: people, boxes, letters, what waits for other houses. Assumes nothing: these are definitions.
-use Rattle.std.specs.Prelude.{◌≡◌, ℕ, zero, suc, ◌+◌, ◌-◌, ◌*◌, ◌/◌, ◌%◌, ◌<◌, ◌≤◌, Bool, true, false, not, ◌&&◌, leb, List, [], ◌∷◌, ◌++◌, length, take, drop, ◌==◌, nat_le, nat_lt, slice_index}
-use Rattle.model.specs.Mail.{pick, or, every, any, each, those, flat, added_up, none_of, same, eight, with_length, all_bytes, Letter, Test, always, field_has, field_is, longer, marked, neither, both, either, Action, keep, file, away, on_to, mark, halt, Rule, Fate, fate, holds_for, has_mark, in_box, with_new}
+use Rattle.std.specs.Prelude.{ℕ, zero, suc, ◌+◌, ◌-◌, ◌*◌, Bool, true, false, not, ◌&&◌, leb, List, [], ◌∷◌, ◌++◌, length, take, drop, ◌==◌, nat_le, nat_lt, slice_index}
+use Rattle.model.specs.Mail.{pick, or, every, any, each, those, flat, added_up, none_of, same, eight, with_length, all_bytes, Letter, Test, always, field_has, field_is, longer, marked, neither, both, either, Action, keep, file, away, on_to, mark, halt, Rule, fate, holds_for, has_mark, in_box, with_new}
 
 -- what can be said to a house
 pub data Command : Type 0 where

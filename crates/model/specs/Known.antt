@@ -1,5 +1,5 @@
 -- The sets of commands that a house may know, from none on, widened by one kind of command at a time.
-use Rattle.std.specs.Prelude.{◌≡◌, ℕ, Bool, true, false, List, [], ◌∷◌, ◌==◌}
+use Rattle.std.specs.Prelude.{◌≡◌, ℕ, Bool, false, ◌==◌}
 use Rattle.model.specs.Mail.{or}
 use Rattle.model.specs.House.{Command, join, hand_in, boxes, new_box, drop_box, list, get, set_mark, to_box, clear, rules, find, push, core}
 

@@ -1,9 +1,9 @@
 -- What the houses promise. Each is a statement, a type whose proof is owed by a function whose contract names it. Assumes nothing.
-use Rattle.std.specs.Prelude.{◌≡◌, ℕ, zero, suc, ◌+◌, ◌-◌, ◌*◌, ◌/◌, ◌%◌, ◌<◌, ◌≤◌, Bool, true, false, not, ◌&&◌, ltb, ◌⊎◌, List, [], ◌∷◌, ◌++◌, length, take, drop, ◌==◌, nat_lt, slice_index}
-use Rattle.model.specs.Mail.{pick, or, every, any, each, those, flat, same, added_up, none_of, Letter, Rule, Test, Action, away, file, keep, on_to, mark, halt, Fate, fate, in_box}
-use Rattle.model.specs.House.{Command, push, set_mark, spelled, fits, House, Plain, Person, Box, Way, Out, Turn, turn, house_at, set_house, way_at, person_at, box_of, pushed, can_know, not_taken, deliver, somebody, weight, new_one, at_first, come}
-use Rattle.model.specs.Device.{Device, Page, Write, page_at, read_page, flushed, stopped}
-use Rattle.model.specs.Run.{Engine, Event, World, Item, proper, Right, new_world, Steady, so_many}
+use Rattle.std.specs.Prelude.{◌≡◌, ℕ, zero, suc, ◌+◌, ◌-◌, ◌*◌, ◌/◌, ◌<◌, ◌≤◌, Bool, true, false, ◌&&◌, ltb, ◌⊎◌, List, [], ◌∷◌, ◌++◌, length, take, drop, ◌==◌, nat_lt, slice_index}
+use Rattle.model.specs.Mail.{pick, every, any, added_up, none_of, Letter, Rule, Action, away, file, keep, on_to, mark, halt, fate}
+use Rattle.model.specs.House.{Command, push, set_mark, spelled, fits, House, Plain, Box, Turn, turn, house_at, set_house, way_at, person_at, pushed, can_know, not_taken, somebody, weight, at_first, come}
+use Rattle.model.specs.Device.{Device, Write, page_at, read_page, flushed, stopped}
+use Rattle.model.specs.Run.{Engine, Item, proper, Right, new_world, Steady, so_many}
 
 abbrev pub Never : Type 0
 Never = zero ≡ suc zero

@@ -1,8 +1,8 @@
 -- The house as a machine with a memory, asked and answered step by step; how it runs beside its pages and the other houses.
 -- Assumes nothing: these are definitions.
-use Rattle.std.specs.Prelude.{◌≡◌, ℕ, zero, suc, ◌+◌, ◌-◌, ◌*◌, ◌/◌, ◌%◌, ◌<◌, ◌≤◌, Bool, true, false, not, ◌&&◌, ltb, ◌⊎◌, List, [], ◌∷◌, ◌++◌, length, ◌==◌, nat_eq, nat_le, nat_lt}
-use Rattle.model.specs.Mail.{pick, or, every}
-use Rattle.model.specs.Device.{Device, Page, Write, read_page, flushed, stopped, a_page, blank}
+use Rattle.std.specs.Prelude.{◌≡◌, ℕ, zero, suc, ◌≤◌, Bool, true, false, ◌&&◌, ltb, ◌⊎◌, List, [], ◌∷◌, ◌++◌, length, ◌==◌, nat_eq, nat_le, nat_lt}
+use Rattle.model.specs.Mail.{pick, every}
+use Rattle.model.specs.Device.{Device, Page, read_page, flushed, stopped, a_page, blank}
 
 -- what the machine is told
 pub data Event : Type 0 where

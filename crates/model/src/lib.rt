@@ -1,5 +1,7 @@
 // The plain houses, the pages that they lie on, how a house runs, and what all of them promise: definitions in specs/, and here what
 // holds of them, each statement on the contract of a function. It knows nothing of how a house keeps what it has.
+#![tactic(auto)]
+
 ghost use Rattle.model.specs.Always.{AlwaysSound, NeverAgain, PushesInParts, StaysReached};
 ghost use Rattle.model.specs.Delivered.{Delivered};
 ghost use Rattle.model.specs.Example.{TwoIslands};

@@ -58,7 +58,8 @@ impl Session<'_> {
             .power(house, houses, &mut self.file, &mut rows)?;
         let heap = self.rt.alloc();
         let mut number: u64 = 0;
-        for line in BufReader::new(self.rt.stdin()).split(heap, b'\n') {
+        let lines = BufReader::new(heap, self.rt.stdin())?;
+        for line in lines.split(heap, b'\n') {
             number = number.saturating_add(1);
             self.line(line?.as_slice(), number)?;
         }

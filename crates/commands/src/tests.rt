@@ -322,6 +322,6 @@ fn parts_come_out(rt: HostRuntime) -> Result<(), Fail> {
         return Err(Fail::new("no mark is set"));
     };
     assert_eq!(rt; (person, number, mark, on), (2, 261, 7, true));
-    assert_eq!(rt; mailbox, b"box");
+    assert_eq!(rt; mailbox, b"box".as_slice());
     Ok(())
 }

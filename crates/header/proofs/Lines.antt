@@ -3,7 +3,7 @@ use Rattle.std.proofs.Common.{◌≡◌, ℕ, zero, suc, ◌+◌, ◌-◌, ◌<�
 use mathlib.Core.Bool.{and-true}
 use Rattle.std.proofs.lemmas.List.{drop_more, drop_all, take_rest}
 use Rattle.std.proofs.lemmas.Bool.{cases_Bool, cases_eq, and_right}
-use Rattle.model.specs.Mail.{pick, each, those, small, smalls, none_of, line_of, after_line, head_lines, starts_with, no_blanks, field}
+use Rattle.model.specs.Mail.{pick, small, smalls, none_of, line_of, after_line, head_lines, starts_with, no_blanks, field}
 use Rattle.header.specs.Head.{of_field, FirstLine, LineValue, FirstValue}
 use Rattle.header.proofs.Small.{length_each, drop_each, small_of_low, starts_with_short, starts_with_append, no_blanks_smalls, length_no_blanks}
 

@@ -1,5 +1,7 @@
 // Reading a letter's head, over lent bytes: the first value of a field, and whether some value of it holds a text or is one. It promises the
 // values of the plain definition for every letter, name and text; it keeps nothing and copies only the value that is asked for.
+#![tactic(auto)]
+
 ghost use Rattle.std.specs.Prelude.{◌≡◌, MatchResult};
 ghost use Rattle.model.specs.Mail.{any, holds, same, smalls, field};
 ghost use Rattle.header.specs.Entry.{FieldSays, refusal};

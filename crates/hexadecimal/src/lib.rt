@@ -1,4 +1,6 @@
 // Bytes as hexadecimal digits, two for each, and back. It promises just the bytes and the digits of the definition, and knows nothing of houses.
+#![tactic(auto)]
+
 ghost use Rattle.std.specs.Prelude.{◌≡◌, ◌<◌, IfOk, vec_items, string_bytes};
 ghost use Rattle.hexadecimal.specs.Hex.{digit, digit_value, pair_value, unhexed, hexed};
 ghost use Rattle.std.specs.Option.{option_map};

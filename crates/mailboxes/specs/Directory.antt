@@ -1,5 +1,5 @@
 -- The directory: people and boxes as records of 12 words in one long list of words, and the plain house that they stand for. No letters yet.
-use Rattle.std.specs.Prelude.{◌≡◌, ℕ, zero, suc, ◌+◌, ◌-◌, ◌*◌, ◌/◌, ◌%◌, ◌<◌, ◌≤◌, Bool, true, false, ◌&&◌, List, [], ◌∷◌, ◌++◌, length, take, Some, None, Option, ◌==◌, slice_index}
+use Rattle.std.specs.Prelude.{◌≡◌, ℕ, zero, suc, ◌+◌, ◌-◌, ◌*◌, ◌/◌, ◌%◌, ◌<◌, ◌≤◌, Bool, true, ◌&&◌, List, [], ◌∷◌, ◌++◌, length, take, Some, None, Option, ◌==◌, slice_index}
 use Rattle.model.specs.Mail.{pick, each, those, same, in_box}
 use Rattle.model.specs.House.{Box, Person, House, a_name}
 use Rattle.model.specs.Device.{zeros}

@@ -1,4 +1,6 @@
 // People and boxes: records of twelve words in one long list of words, found by name, counted and added. It knows nothing of pages or letters.
+#![tactic(auto)]
+
 mod add;
 mod directory;
 mod name;

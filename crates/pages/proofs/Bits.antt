@@ -1,12 +1,11 @@
 -- Laws of selector bits: a turned bit is the other one, the rest stay, and words stay below 2^64.
-use Rattle.std.proofs.Common.{◌≡◌, ℕ, zero, suc, ◌+◌, ◌-◌, ◌*◌, ◌/◌, ◌%◌, ◌^◌, ◌<◌, ◌≤◌, true, false, eqb, ◌≢◌, List, [], length, get_or, set, sym, refl, ap, ◌∙◌, inl, inr, one-mul, arith, length-set, get_or-set_other, get_or-set_same}
+use Rattle.std.proofs.Common.{◌≡◌, ℕ, ◌+◌, ◌-◌, ◌*◌, ◌/◌, ◌%◌, ◌^◌, ◌<◌, ◌≤◌, true, ◌≢◌, List, [], length, get_or, sym, ap, ◌∙◌, inl, inr, one-mul, arith, length-set, get_or-set_other, get_or-set_same}
 use native.Mathlib.Nat.{zero-div}
 use lib.Bits.{bit_xor, xor_add_and, xor_block, xor_zero_r}
 use lib.Seq.{set_out}
 use Rattle.std.proofs.lemmas.List.{get_or_past}
 use Rattle.std.proofs.lemmas.Bool.{cases_lt, cases_eq, eq-eqb, ne_eqb}
 use Rattle.std.proofs.lemmas.Nat.{and_mask, pow_pos, pow-add, shr-shr, shr_high, div-add-mod', mod_below, le-div}
-use Rattle.model.specs.Mail.{pick}
 use Rattle.model.specs.Device.{zeros}
 use Rattle.model.specs.Run.{all_small}
 use Rattle.pages.specs.Bits.{word_bit, word_flipped, bit, flipped, touched}

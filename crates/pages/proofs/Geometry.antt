@@ -1,5 +1,5 @@
 -- Laws of where things lie: every region fits on 256 to 1,048,576 pages, and no two things share a page.
-use Rattle.std.proofs.Common.{◌≡◌, ℕ, zero, suc, ◌+◌, ◌-◌, ◌*◌, ◌/◌, ◌<◌, ◌≤◌, min, ◌≢◌, List, refl, ap, arith}
+use Rattle.std.proofs.Common.{◌≡◌, ℕ, zero, suc, ◌+◌, ◌*◌, ◌/◌, ◌<◌, ◌≤◌, ◌≢◌, List, refl, ap, arith}
 use Rattle.pages.specs.Bits.{bit}
 use Rattle.pages.specs.Geometry.{most_boxes, boxes_place, directory_pages, table_pages, selector_pages, selector_place, table_place, body_place}
 use Rattle.pages.proofs.Bits.{bit_lt}

@@ -1,5 +1,5 @@
 -- Laws of the first touched page: it is touched and none before it is, or none is; and how a walk finds it.
-use Rattle.std.proofs.Common.{◌≡◌, ℕ, zero, suc, ◌+◌, ◌-◌, ◌/◌, ◌<◌, ◌≤◌, eqb, List, length, Some, None, Option, sym, refl, ap, ◌∙◌, inl, inr, arith, MatchOption}
+use Rattle.std.proofs.Common.{◌≡◌, ℕ, zero, suc, ◌+◌, ◌-◌, ◌/◌, ◌<◌, ◌≤◌, List, length, Some, None, Option, sym, refl, ap, ◌∙◌, inl, inr, arith, MatchOption}
 use Rattle.std.proofs.lemmas.Bool.{cases_eq, cases_lt, eq-eqb, ne_eqb}
 use Rattle.pages.specs.Bits.{bit}
 use Rattle.pages.specs.Touched.{Untouched, IsFirst, touched_among, first_touched}

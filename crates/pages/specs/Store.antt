@@ -1,6 +1,6 @@
 -- What pages keep: a header, the selector bits that count, and the words of each table page at the twin that counts.
-use Rattle.std.specs.Prelude.{◌≡◌, ℕ, zero, suc, ◌+◌, ◌-◌, ◌*◌, ◌<◌, Bool, true, false, List, length, take, ◌≢◌, slice_index}
-use Rattle.model.specs.Device.{Page, page_at, zeros}
+use Rattle.std.specs.Prelude.{◌≡◌, ℕ, ◌*◌, ◌<◌, List, length, take, ◌≢◌, slice_index}
+use Rattle.model.specs.Device.{Page, page_at}
 use Rattle.pages.specs.Words.{bytes_of, part}
 use Rattle.pages.specs.Geometry.{table_pages, selector_pages, selector_place, table_place}
 

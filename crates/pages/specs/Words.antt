@@ -1,5 +1,5 @@
 -- Words of eight bytes, the highest first, in rows of bytes; and parts of long lists of words.
-use Rattle.std.specs.Prelude.{ℕ, zero, suc, ◌+◌, ◌*◌, List, [], ◌∷◌, ◌++◌, length, take, drop}
+use Rattle.std.specs.Prelude.{ℕ, zero, suc, List, [], ◌∷◌, ◌++◌, length, take, drop}
 use Rattle.model.specs.Mail.{eight, flat}
 use Rattle.model.specs.Promise.{from_bytes}
 

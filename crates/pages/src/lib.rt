@@ -1,5 +1,7 @@
 // The store: pages that come up after any stop. Words lie in pages as eight bytes each, the highest first; a selector bit says which of the two
 // twins of a table page counts; the geometry says where each page lies. It does not know what the words mean.
+#![tactic(auto)]
+
 pub mod bytes;
 pub mod places;
 pub mod selectors;

@@ -1,4 +1,4 @@
-use Rattle.std.proofs.Common.{◌≡◌, ◌≤◌, length, sym, refl, ap, ◌∙◌, arith, true-eqb, false-eqb}
+use Rattle.std.proofs.Common.{◌≡◌, length, arith, true-eqb, false-eqb}
 use Rattle.hexadecimal.proofs.Digits.{turn_none, turn_some, turn_end, turn_odd}
 use Rattle.hexadecimal.proofs.from_hex.Goals as goal
 

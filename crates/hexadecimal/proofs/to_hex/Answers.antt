@@ -1,6 +1,6 @@
-use Rattle.std.proofs.Common.{◌/◌, ◌%◌, ◌<◌, get_or, take, sym, refl, ap, ◌∙◌, arith}
+use Rattle.std.proofs.Common.{get_or, take, ap, ◌∙◌}
 use Rattle.std.proofs.lemmas.List.{take_all, take_more}
-use Rattle.hexadecimal.specs.Hex.{hexed, digit}
+use Rattle.hexadecimal.specs.Hex.{hexed}
 use Rattle.hexadecimal.proofs.Digits.{hexed_push}
 use Rattle.hexadecimal.proofs.to_hex.Goals as goal
 

@@ -1,5 +1,5 @@
 -- The lowest bit of the word moved down; past the words 0.
-use Rattle.std.proofs.Common.{◌≡◌, ◌/◌, ◌%◌, ◌^◌, get_or, sym}
+use Rattle.std.proofs.Common.{◌/◌, ◌%◌, ◌^◌, get_or, sym}
 use Rattle.std.proofs.lemmas.Nat.{and_mask}
 use Rattle.pages.specs.Bits.{bit, word_bit}
 use Rattle.pages.proofs.Bits.{bit_past}

@@ -1,5 +1,5 @@
 -- A page whose bits agree is passed by, one whose bits differ is the answer, and past the words there is none.
-use Rattle.std.proofs.Common.{◌≡◌, sym, ◌∙◌, arith}
+use Rattle.std.proofs.Common.{sym, ◌∙◌, arith}
 use Rattle.pages.proofs.Touched.{first_touched_none, first_touched_same, first_touched_found, first_touched_past}
 use Rattle.pages.proofs.selectors.next_touched.Goals as goal
 

@@ -1,5 +1,5 @@
 -- The two ways of the test are the two cases of the definition.
-use Rattle.std.proofs.Common.{◌≡◌, sym, ◌∙◌}
+use Rattle.std.proofs.Common.{sym, ◌∙◌}
 use Rattle.pages.proofs.Bits.{touched_same, touched_already}
 use Rattle.pages.proofs.selectors.touch.Goals as goal
 

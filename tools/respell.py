@@ -17,7 +17,9 @@ import sys
 WORD = r"[^\s(){}.;,@\"«»\[\]\\]+"
 TOKEN = re.compile(r"--[^\n]*|\"(?:[^\"\\]|\\.)*\"|«[^»]*»|" + WORD)
 SIGNATURE = re.compile(r"^\s*(?:(?:abbrev|unfoldable)\s+)?(?:pub\s+)?(?:(?P<kind>record|data|module)\s+)?(?P<name>%s)\s*(?P<rest>(?:[({].*)?:(?:\s.*)?)$" % WORD)
-ELSEWHERE = re.compile(r"^\s*(?:ghost )?use (Rattle\.(?:std|core)\b|Prim\b|mathlib\b|native\b|Rattle\.\w+\.proofs\.\S+\.(?:Goals|Given)\b|Rattle\.\w+\.specs\.(?:declared|contracts)\b)[^{]*\{(.*)\}")
+USE = re.compile(r"^\s*(?:ghost )?use ([^\s{]+)\.\{(.*)\}")
+OWN = re.compile(r"Rattle\.(?:%s)\." % "|".join(re.findall(r"^(\w+)(?: \w+)*:", open(os.path.join(os.path.dirname(os.path.realpath(__file__)), "..", "crates.txt"), encoding="utf-8").read(), re.M)))
+MADE = re.compile(r"\.(?:Goals|Given|declared|contracts)\b")
 HYPHENS = re.compile(r"\w['₀-₉]*-\w")
 RENAMED_CRATES = {"hex": "hexadecimal"}
 
@@ -45,6 +47,14 @@ def signatures(text):
             type_ += " " + lines[j].strip()
             j += 1
         yield m["kind"], m["name"], indent, type_.strip()
+
+
+def from_elsewhere(line):
+    """The names that a line brings in from the library, or that Rattle makes."""
+    m = USE.match(line)
+    if not m or (OWN.match(m[1] + ".") and not MADE.search(m[1])):
+        return set()
+    return {it.split(" as ")[0].strip() for it in m[2].split(",")}
 
 
 def camel(name):
@@ -100,18 +110,14 @@ def main():
     for path, text in texts.items():
         elsewhere = set(made[path])
         for line in text.split("\n"):
-            m = ELSEWHERE.match(line)
-            if m:
-                elsewhere |= {it.split(" as ")[0].strip() for it in m[2].split(",")}
+            elsewhere |= from_elsewhere(line)
         out[path] = turn(text, elsewhere, False)
 
     for path in sorted(glob.glob("crates/*/src/**/*.rt", recursive=True)):
         text, done, in_clause = read(path), [], False
         elsewhere = set()
         for line in text.split("\n"):
-            m = ELSEWHERE.match(line)
-            if m:
-                elsewhere |= {it.strip() for it in m[2].split(",")}
+            elsewhere |= from_elsewhere(line)
         for line in text.split("\n"):
             starts = re.match(r"\s*(pub\(?.*\)? )?(ghost|requires|ensures)\b", line)
             if starts or in_clause:

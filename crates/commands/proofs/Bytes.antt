@@ -1,5 +1,5 @@
 -- Lists of bytes: the parts of one are lists of bytes too, and so is what a slice of bytes holds.
-use Rattle.std.proofs.Common.{◌≡◌, ℕ, zero, suc, ◌+◌, true, ltb, List, [], ◌∷◌, ◌++◌, get_or, take, refl, w8, Fits}
+use Rattle.std.proofs.Common.{◌≡◌, ℕ, zero, suc, true, ltb, List, [], ◌∷◌, ◌++◌, get_or, take, refl, w8, Fits}
 use Rattle.std.proofs.lemmas.Bool.{and_parts, and_from, lt-ltb}
 use Rattle.model.specs.Mail.{all_bytes}
 

@@ -1,5 +1,7 @@
 // Reads a command from lent bytes, without copying any of them. It promises that what it answers is the command that the bytes spell, and
 // that it answers none just where they spell none. It knows nothing of houses, and does nothing with a command.
+#![tactic(auto)]
+
 ghost use Rattle.model.specs.Promise.{SpelledOnce};
 ghost use Rattle.commands.specs.Meaning.{Answers};
 ghost use Rattle.commands.specs.Reader.{command_of};

@@ -1,8 +1,8 @@
 -- Pages cut out of a row of bytes are the pages of the model: a write on the row is one on the pages.
-use Rattle.std.proofs.Common.{◌≡◌, ℕ, zero, suc, ◌+◌, ◌-◌, ◌*◌, ◌/◌, ◌<◌, ◌≤◌, Bool, true, false, cond, ◌&&◌, eqb, ltb, leb, ◌⊎◌, List, [], ◌∷◌, ◌++◌, length, get_or, take, drop, set, replicate, vec_items, sym, refl, ap, ◌∙◌, inl, inr, append_assoc, arith, length-set, get_or-set_same, le-ltb, lt-ltb, eq-eqb, ne_eqb, eqb-true, le-leb}
+use Rattle.std.proofs.Common.{◌≡◌, ℕ, zero, suc, ◌+◌, ◌-◌, ◌*◌, ◌/◌, ◌<◌, ◌≤◌, cond, ◌&&◌, eqb, ltb, leb, List, [], ◌∷◌, ◌++◌, length, get_or, take, drop, set, replicate, vec_items, sym, refl, ap, ◌∙◌, inl, inr, append_assoc, arith, length-set, get_or-set_same, le-ltb, lt-ltb, eq-eqb, ne_eqb, le-leb}
 use borrow.Rule.Slice.PartMut.{put_mid}
-use borrow.Author.Tests.{lt-leb, eqb-false}
-use Rattle.std.proofs.lemmas.List.{length-append, length-take, length-drop, length-take-le, take-append-le, drop-append-le, drop-drop, take-take, take_at, drop_at, take_all, drop_all, append-nil, set_past, set-get_or, length-replicate, take-replicate, drop-replicate, drop-take, at_drop_more, at_drop_all, take_more}
+use borrow.Author.Tests.{lt-leb}
+use Rattle.std.proofs.lemmas.List.{length-append, length-take, length-drop, length-take-le, take-append-le, drop-append-le, drop-drop, take-take, take_all, drop_all, append-nil, set_past, set-get_or, length-replicate, take-replicate, drop-replicate, drop-take, at_drop_more, at_drop_all, take_more}
 use Rattle.std.proofs.lemmas.Slice.{drop-append-drop, put_mid-paste}
 use Rattle.std.proofs.lemmas.Bool.{and_from, and_left, and_right, cases_lt, cases_eq, cond-true, cond-false}
 use Rattle.model.specs.Mail.{pick, each}

@@ -1,6 +1,6 @@
 -- How many commands the items of a day say.
-use Rattle.std.proofs.Common.{◌≡◌, ℕ, ◌+◌, ◌<◌, ◌≤◌, List, [], ◌∷◌, ◌++◌, length, get_or, take, sym, refl, ap, ◌∙◌, arith}
-use Rattle.std.proofs.lemmas.List.{take_more, take_all, length-take}
+use Rattle.std.proofs.Common.{◌≡◌, ℕ, ◌+◌, ◌<◌, ◌≤◌, List, [], ◌∷◌, ◌++◌, length, get_or, take, sym, ap, ◌∙◌, arith}
+use Rattle.std.proofs.lemmas.List.{take_more, length-take}
 use Rattle.days.specs.declared.make.Item.{Item}
 use Rattle.days.specs.declared.make.Item.TheVariants.{Power, PowerStops, Whole, Stops}
 use Rattle.days.specs.Played.{says, all_said, counted}

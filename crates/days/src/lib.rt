@@ -1,5 +1,7 @@
 // Days of a house, made from a number: commands, well-spelled and not, with power lost at any act. They are played on the real step and
 // beside a plain house, and the two must agree. Nothing here is known to the house itself.
+#![tactic(auto)]
+
 mod command;
 mod cost;
 mod device;

@@ -1,8 +1,8 @@
 -- From one act of a command to the next, and to its end.
-use Rattle.std.proofs.Common.{◌≡◌, ℕ, ◌+◌, ◌*◌, ◌≤◌, Bool, true, false, List, [], ◌++◌, length, take, drop, sym, refl, ap, ◌∙◌, subst, eq-eqb, le-leb}
+use Rattle.std.proofs.Common.{◌≡◌, ℕ, ◌+◌, ◌*◌, ◌≤◌, Bool, true, false, List, ◌++◌, length, take, drop, sym, refl, ap, ◌∙◌, subst, eq-eqb, le-leb}
 use mathlib.Core.Bool.{false≢true}
 use Rattle.std.proofs.lemmas.List.{take_at}
-use Rattle.model.specs.Run.{Engine, Event, said, page, next, lost, Act, read, write, flush, shows, send, done, refused, Step}
+use Rattle.model.specs.Run.{Event, said, page, next, lost, Act, read, write, flush, shows, send, done, refused}
 use Rattle.house.specs.declared.Told.{Told}
 use Rattle.house.specs.declared.Told.TheVariants.{Read, Write, Flush, Shows, Send, Done, No}
 use Rattle.house.specs.Machine.{own}

@@ -1,9 +1,9 @@
 -- What a host tells a house that gets power: a memory of zeros, and three numbers in bytes.
-use Rattle.std.proofs.Common.{◌≡◌, ℕ, zero, suc, ◌+◌, ◌*◌, ◌/◌, ◌%◌, ◌<◌, Bool, true, false, ◌&&◌, eqb, List, [], ◌∷◌, ◌++◌, length, replicate, sym, refl, ap, ◌∙◌, subst, arith, true-eqb}
+use Rattle.std.proofs.Common.{◌≡◌, ℕ, ◌/◌, ◌%◌, ◌<◌, Bool, true, false, ◌&&◌, eqb, List, [], ◌∷◌, ◌++◌, length, replicate, sym, refl, ap, ◌∙◌, subst, arith, true-eqb}
 use mathlib.Core.Bool.{false≢true}
 use borrow.Rule.Slice.PartMut.{put_mid}
 use Rattle.model.specs.Mail.{every}
-use Rattle.model.specs.Run.{Engine, Event, on, Steady}
+use Rattle.model.specs.Run.{Event, on, Steady}
 use Rattle.house.specs.Entry.{from_eight, event_of}
 use Rattle.house.specs.Machine.{own}
 use Rattle.house.specs.declared.Told.{Told}

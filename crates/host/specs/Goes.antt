@@ -1,7 +1,7 @@
 -- How a command goes at a house that a host does the acts of: from a memory and an event, act by act, to its end. The host has a disk of pages and a
 -- place for rows, and says itself what it is to read, to write and to keep pages, and to show a row: relations between what was before and after.
 use Rattle.std.specs.Prelude.{◌≡◌, ℕ, List, length, take}
-use Rattle.model.specs.Run.{Engine, Event, page, next, lost, Act, read, write, flush, shows, send, done, refused, Step}
+use Rattle.model.specs.Run.{Event, page, next, lost, Act, read, write, flush, shows, send, done, refused}
 use Rattle.house.specs.declared.Told.{Told}
 use Rattle.house.specs.declared.Told.TheVariants.{Read, Write, Flush, Shows, Send, Done, No}
 use Rattle.house.specs.Machine.{own}

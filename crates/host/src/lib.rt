@@ -1,5 +1,7 @@
 // A house beside its pages, for programs: it does the acts that a step asks for, one after another and just those, on whatever keeps pages, and touches
 // no page that isn't there. It promises nothing of what a file or a terminal does; what a house does with its pages is proved in `house`.
+#![tactic(auto)]
+
 mod disk;
 mod machine;
 

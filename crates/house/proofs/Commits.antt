@@ -1,31 +1,31 @@
 -- A commit, act by act: from a memory whose directory has changed to pages that keep it, safe at every stop.
-use Rattle.std.proofs.Common.{◌≡◌, ℕ, zero, suc, ◌+◌, ◌-◌, ◌*◌, ◌^◌, ◌<◌, ◌≤◌, Bool, true, false, ◌&&◌, eqb, ltb, leb, ◌≢◌, ◌⊎◌, List, [], ◌∷◌, ◌++◌, length, get_or, take, drop, Some, None, Option, sym, refl, ap, ◌∙◌, subst, ap₂, inl, inr, ⊎_elim, arith, le-ltb, lt-ltb, eq-eqb, MatchOption}
+use Rattle.std.proofs.Common.{◌≡◌, ℕ, zero, suc, ◌+◌, ◌-◌, ◌*◌, ◌^◌, ◌<◌, ◌≤◌, Bool, true, ◌&&◌, ltb, ◌≢◌, ◌⊎◌, List, [], ◌∷◌, ◌++◌, length, get_or, take, Some, None, Option, sym, refl, ap, ◌∙◌, subst, ap₂, inl, inr, ⊎_elim, arith, le-ltb, lt-ltb, eq-eqb, MatchOption}
 use native.Mathlib.Decide.{dec_lt}
 use Rattle.std.proofs.lemmas.List.{take_at, length-append}
 use Rattle.std.proofs.lemmas.Bool.{cases_eq}
-use Rattle.model.specs.Mail.{pick, every}
-use Rattle.model.specs.Device.{Device, Page, Write, read_page, flushed, stopped, a_page, zeros}
-use Rattle.model.specs.Run.{Engine, Event, next, Act, write, flush, Step, World, queued, writable, all_small}
+use Rattle.model.specs.Mail.{pick}
+use Rattle.model.specs.Device.{Device, Page, flushed, stopped, a_page, zeros}
+use Rattle.model.specs.Run.{Event, next, write, flush, World, queued, writable, all_small}
 use Rattle.pages.specs.Words.{bytes_of, part, patched}
 use Rattle.pages.specs.Bits.{bit}
-use Rattle.pages.specs.Geometry.{selector_pages, directory_pages, table_pages, selector_place, table_place, body_place}
+use Rattle.pages.specs.Geometry.{selector_pages, directory_pages, table_pages, selector_place, table_place}
 use Rattle.pages.specs.Touched.{first_touched, Untouched, IsFirst}
-use Rattle.pages.specs.Store.{Image, Kept, version, area}
-use Rattle.pages.proofs.Words.{page_of_words, length_part, length_patched, length_bytes_of, bytes_of_append, all_bytes_of, length_zeros, getD_patched, every_append, all_small_cons, all_small_nil}
+use Rattle.pages.specs.Store.{Image, Kept, area}
+use Rattle.pages.proofs.Words.{page_of_words, length_part, length_patched, length_bytes_of, all_bytes_of, length_zeros, getD_patched, every_append, all_small_cons, all_small_nil}
 use Rattle.mailboxes.proofs.Names.{all_bytes_zeros}
 use Rattle.pages.proofs.Touched.{first_touched_says}
 use Rattle.pages.proofs.Geometry.{table_place_lt, selector_place_lt, selector_pages_most, selector_pages_some, directory_pages_most}
-use Rattle.pages.proofs.Harmless.{Harmless, Both, Working, working_stopped, working_queued, working_flushed, working_still}
+use Rattle.pages.proofs.Harmless.{Both, Working, working_stopped, working_queued, working_flushed, working_still}
 use Rattle.pages.proofs.Kept.{bodies_begin}
 use Rattle.pages.proofs.Commit.{Follows, Committing, Prepared, Everywhere, Nowhere, Also, begins, turns, shown_less, writes_table, writes_selectors, first_flush, header_stopped, second_flush}
 use Rattle.house.specs.declared.phase.Phase.{Phase}
 use Rattle.house.specs.declared.phase.Phase.TheVariants.{WriteTable, WriteSelectors, WriteHeader, FlushHeader, Committed}
-use Rattle.house.specs.Memory.{counting_of, coming_of, area_of, header_of, phase_words, in_phase}
+use Rattle.house.specs.Memory.{in_phase}
 use Rattle.house.specs.Machine.{own, go, commit, table_written, selectors_written, selectors_next, header_written, next_told}
 use Rattle.house.proofs.Course.{Course}
 use Rattle.house.proofs.Fronts.{world, step_to}
 use Rattle.house.proofs.Works.{Works, leads, works_more, first_writes, first_flushes}
-use Rattle.house.proofs.Regions.{Mem, length_counting, length_coming, length_dir, length_header, small_coming, header_word, dir_page, coming_page, to_phase, to_header}
+use Rattle.house.proofs.Regions.{Mem, length_coming, length_dir, header_word, dir_page, coming_page, to_phase, to_header}
 use Rattle.house.proofs.Rest.{WholePages, Beside}
 use Rattle.house.proofs.Sizes.{whole_harmless}
 

@@ -1,6 +1,6 @@
 -- What is owed of one command at one house that has power: how it ends, the acts on the way, and that the house is at rest again.
 use Rattle.std.proofs.Common.{ℕ, Bool, List, []}
-use Rattle.model.specs.House.{Command, House, Plain, set_house}
+use Rattle.model.specs.House.{House, Plain, set_house}
 use Rattle.model.specs.Device.{Device, stopped}
 use Rattle.model.specs.Run.{said, World}
 use Rattle.model.specs.Promise.{May, Mid}

@@ -1,5 +1,5 @@
 -- One act in front of a course, from what the definition's step is.
-use Rattle.std.proofs.Common.{◌≡◌, ℕ, Bool, true, false, List, [], ◌∷◌, ◌++◌, sym, refl, ap, ◌∙◌, subst}
+use Rattle.std.proofs.Common.{◌≡◌, ℕ, Bool, true, List, [], ◌∷◌, ◌++◌, sym, refl, ap, subst}
 use Rattle.model.specs.Device.{Device, Page, read_page, flushed}
 use Rattle.model.specs.Run.{Engine, Event, page, next, Act, read, write, flush, shows, done, refused, Step, World, queued, writable, refusal_end}
 use Rattle.house.proofs.Course.{Course, ends, refuses, reads, writes, flushes, showing}

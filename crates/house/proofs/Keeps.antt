@@ -1,29 +1,25 @@
 -- join and new box where there is room: the changed memory stands for the house with one person, or one box, more, and it settles.
-use Rattle.std.proofs.Common.{◌≡◌, ℕ, zero, suc, ◌+◌, ◌-◌, ◌*◌, ◌/◌, ◌^◌, ◌<◌, ◌≤◌, Bool, true, false, ◌&&◌, eqb, ltb, leb, ◌≢◌, List, [], ◌∷◌, ◌++◌, length, get_or, take, drop, sym, refl, ap, ◌∙◌, subst, ap₂, add-one, arith, ne_eqb}
+use Rattle.std.proofs.Common.{◌≡◌, ℕ, suc, ◌+◌, ◌-◌, ◌*◌, ◌/◌, ◌<◌, ◌≤◌, Bool, true, List, [], ◌∷◌, length, get_or, sym, refl, ap, ◌∙◌, subst, add-one, arith, ne_eqb}
 use Rattle.model.specs.Mail.{pick, eight}
-use Rattle.model.specs.House.{Command, join, new_box, House, Plain, Turn, turn, house_at, weight}
-use Rattle.model.specs.Run.{Engine, said, Step, World, all_small}
-use Rattle.model.specs.Promise.{Said, NoPush}
+use Rattle.model.specs.House.{join, new_box, Plain, Turn, house_at, weight}
+use Rattle.model.specs.Run.{World, all_small}
+use Rattle.model.specs.Promise.{Said}
 use Rattle.model.specs.Known.{also, nothing}
-use Rattle.pages.specs.Words.{part, patched}
-use Rattle.pages.specs.Bits.{bit}
-use Rattle.pages.specs.Geometry.{selector_pages, directory_pages, table_pages}
-use Rattle.pages.specs.Store.{Image, area}
-use Rattle.pages.proofs.Words.{length_patched, getD_patched, getD_patched_before, getD_patched_after, patched_all, all_small_cons, all_small_nil}
+use Rattle.pages.specs.Words.{patched}
+use Rattle.pages.specs.Geometry.{selector_pages, directory_pages}
+use Rattle.pages.proofs.Words.{length_patched, getD_patched, getD_patched_before, patched_all, all_small_cons, all_small_nil}
 use Rattle.pages.proofs.Geometry.{selector_within, directory_pages_most}
-use Rattle.mailboxes.specs.Directory.{person_place, box_place, with_person, with_box, house_of, Sound}
+use Rattle.mailboxes.specs.Directory.{person_place, box_place, with_person, with_box, house_of}
 use Rattle.mailboxes.proofs.Changes.{length_with_person, length_with_box, with_person_house, with_person_sound, with_box_house, with_box_sound, all_small_with_person, all_small_with_box, with_person_page, with_box_page}
-use Rattle.house.specs.declared.phase.Phase.{Phase}
 use Rattle.house.specs.declared.phase.Phase.TheVariants.{Idle}
-use Rattle.house.specs.Memory.{people_of, boxes_count, weight_of, directory_of}
-use Rattle.house.specs.Machine.{own, commit, touch_record, person_added, box_added}
-use Rattle.house.proofs.Regions.{Mem, length_header, length_coming, length_counting, length_dir, small_dir, header_word, to_dir, to_header, to_regs}
+use Rattle.house.specs.Memory.{weight_of}
+use Rattle.house.specs.Machine.{commit, touch_record, person_added, box_added}
+use Rattle.house.proofs.Regions.{Mem, length_header, length_coming, length_dir, small_dir, header_word, to_dir, to_header, to_regs}
 use Rattle.house.proofs.Rest.{Stands, Beside, Up}
 use Rattle.house.proofs.Touching.{record_touched, length_record_touched, agree_record, bit_record_other, touch_mem}
 use Rattle.house.proofs.Counts.{people_word, boxes_is, dir_is, people_there}
 use Rattle.house.proofs.Room.{joined_weight, boxed_weight, joined_few, boxed_few}
 use Rattle.house.proofs.Refusals.{known_no_push}
-use Rattle.house.specs.Knows.{known}
 use Rattle.house.proofs.Does.{Does}
 use Rattle.house.proofs.Asked.{CanJoin, CanMakeBox, joined, boxed}
 use Rattle.house.proofs.Settles.{rows_after, settles}

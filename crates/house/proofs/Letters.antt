@@ -1,5 +1,5 @@
 -- A push letter by letter, and each letter in parts: from what is owed of one part, and of the end, to the whole talk. The counting of the line is done here.
-use Rattle.std.proofs.Common.{◌≡◌, ℕ, zero, suc, ◌+◌, ◌<◌, ◌≤◌, true, List, [], ◌∷◌, length, take, drop, sym, refl, ap, ◌∙◌, subst, inl, inr, arith, length-drop}
+use Rattle.std.proofs.Common.{◌≡◌, ℕ, zero, suc, ◌+◌, ◌<◌, ◌≤◌, true, List, [], ◌∷◌, length, take, drop, refl, ap, inl, inr, arith, length-drop}
 use Rattle.model.specs.House.{House, Plain, Out, house_at, way_at, can_know, not_taken}
 use Rattle.model.specs.Device.{Device}
 use Rattle.model.specs.Run.{Engine, Event, heard, lost, send, World, in_memory, a_letter}

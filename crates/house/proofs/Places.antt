@@ -1,5 +1,5 @@
 -- Places in lists: what stands at a place after a change at that place or another, for worlds, plain houses and flags.
-use Rattle.std.proofs.Common.{◌≡◌, ℕ, zero, suc, ◌<◌, Bool, true, false, ◌&&◌, List, [], ◌∷◌, length, sym, refl, ap, ◌∙◌, arith}
+use Rattle.std.proofs.Common.{◌≡◌, ℕ, zero, suc, ◌<◌, Bool, true, false, ◌&&◌, List, [], ◌∷◌, length, sym, refl, ap, arith}
 use mathlib.Core.Bool.{false≢true}
 use Rattle.model.specs.House.{House, Plain, house_at, set_house}
 use Rattle.model.specs.Run.{World, world_at, set_world, flag, set_flag, so_many, new_world}

@@ -1,5 +1,5 @@
 -- The memory by its regions: what each holds, and what a write to one of them leaves of the others.
-use Rattle.std.proofs.Common.{◌≡◌, ℕ, zero, suc, ◌+◌, ◌-◌, ◌*◌, ◌<◌, ◌≤◌, Bool, true, false, ◌&&◌, eqb, ltb, leb, List, [], ◌∷◌, ◌++◌, length, get_or, take, drop, sym, refl, ap, ◌∙◌, subst, zero-add, arith, lt-ltb, eq-eqb, le-leb}
+use Rattle.std.proofs.Common.{◌≡◌, ℕ, ◌+◌, ◌*◌, ◌<◌, ◌≤◌, true, List, length, get_or, sym, refl, ap, ◌∙◌, subst, zero-add, arith, lt-ltb, eq-eqb, le-leb}
 use Rattle.model.specs.Run.{all_small}
 use Rattle.pages.specs.Words.{part, patched}
 use Rattle.pages.specs.Geometry.{selector_pages, directory_pages}
@@ -7,7 +7,7 @@ use Rattle.pages.proofs.Words.{length_part, length_patched, all_small_patched, p
 use Rattle.pages.proofs.Geometry.{selector_pages_most, directory_pages_most}
 use Rattle.house.specs.declared.phase.Phase.{Phase}
 use Rattle.house.specs.declared.phase.Phase.TheVariants.{Off, ReadHeader, ReadSelectors, ReadDirectory, Idle, ShowBoxes, WriteTable, WriteSelectors, WriteHeader, FlushHeader, Committed, Shown}
-use Rattle.house.specs.Memory.{memory_len, house_number, houses_count, pages_count, to_show, header_of, area_of, people_of, boxes_count, weight_of, counting_of, coming_of, directory_of, phase_in, phase_of, phase_words, in_phase, sensible}
+use Rattle.house.specs.Memory.{phase_in, phase_of, phase_words, in_phase, sensible}
 
 -- a memory in a phase: registers (the house's number, how many houses and pages, what is to be shown), the header's words, the selector words that
 -- count and that are to count, and the directory

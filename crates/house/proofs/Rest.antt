@@ -1,17 +1,16 @@
 -- A house at rest: what its pages hold while it has no power, and what its memory holds beside them while it has.
-use Rattle.std.proofs.Common.{◌≡◌, ℕ, zero, suc, ◌+◌, ◌-◌, ◌*◌, ◌<◌, ◌≤◌, Bool, true, false, ◌&&◌, eqb, ltb, leb, ◌≢◌, ◌⊎◌, List, [], ◌∷◌, ◌++◌, length, get_or, take, drop, sym, refl, ap, ◌∙◌, subst, inl, inr, arith}
+use Rattle.std.proofs.Common.{◌≡◌, ℕ, ◌*◌, ◌<◌, ◌≤◌, true, leb, ◌≢◌, ◌⊎◌, List, [], ◌∷◌, length, get_or}
 use Rattle.model.specs.Mail.{flat, every}
-use Rattle.model.specs.House.{House, Person, weight}
-use Rattle.model.specs.Device.{Device, Page, Write, page_at, set_page, half, left, stopped, all_written, read_page, flushed, a_page, zeros}
-use Rattle.model.specs.Run.{World, all_small, queued}
+use Rattle.model.specs.House.{House, weight}
+use Rattle.model.specs.Device.{Device, Page, a_page}
+use Rattle.model.specs.Run.{World, all_small}
 use Rattle.model.specs.Promise.{first_house}
-use Rattle.pages.specs.Words.{part, patched}
+use Rattle.pages.specs.Words.{part}
 use Rattle.pages.specs.Bits.{bit}
 use Rattle.pages.specs.Geometry.{selector_pages, directory_pages, table_pages}
 use Rattle.pages.specs.Store.{Image, Kept, version, area}
 use Rattle.pages.specs.Commit.{first_image}
 use Rattle.mailboxes.specs.Directory.{count_up, house_of, Sound}
-use Rattle.house.specs.declared.phase.Phase.{Phase}
 use Rattle.house.specs.declared.phase.Phase.TheVariants.{Idle}
 use Rattle.house.proofs.Regions.{Mem}
 

@@ -1,31 +1,28 @@
 -- A command that changes the directory: from the changed memory through the commit to a house at rest again, safe at every stop.
-use Rattle.std.proofs.Common.{◌≡◌, ℕ, zero, suc, ◌+◌, ◌-◌, ◌*◌, ◌^◌, ◌<◌, ◌≤◌, Bool, true, false, ◌&&◌, eqb, ltb, leb, ◌≢◌, ◌⊎◌, List, [], ◌∷◌, ◌++◌, length, get_or, take, drop, sym, refl, ap, ◌∙◌, subst, ap₂, inl, inr, ⊎_elim, arith, le-ltb, lt-ltb, eq-eqb, ne_eqb}
+use Rattle.std.proofs.Common.{◌≡◌, ℕ, zero, suc, ◌+◌, ◌-◌, ◌*◌, ◌<◌, ◌≤◌, Bool, true, eqb, ◌≢◌, ◌⊎◌, List, [], ◌∷◌, ◌++◌, length, get_or, take, sym, refl, ap, ◌∙◌, subst, ap₂, inl, inr, arith, le-ltb, lt-ltb, eq-eqb, ne_eqb}
 use native.Mathlib.Decide.{dec_lt, ℕ_discrete}
 use Rattle.std.proofs.lemmas.List.{take_all, append-nil, append_assoc}
 use Rattle.model.specs.Mail.{pick, flat, eight}
-use Rattle.model.specs.House.{Command, House, Plain, Turn, turn, house_at, set_house, weight}
-use Rattle.model.specs.Device.{Device, Page, stopped, zeros}
-use Rattle.model.specs.Run.{Engine, Event, said, next, Step, World, all_small, shows, done}
+use Rattle.model.specs.House.{Command, House, Plain, turn, house_at, set_house}
+use Rattle.model.specs.Device.{Device, stopped}
+use Rattle.model.specs.Run.{Event, said, next, World, all_small, shows, done}
 use Rattle.model.specs.Promise.{Said, May, Mid, TurnMay, NoPush}
 use Rattle.pages.specs.Words.{part, patched}
-use Rattle.pages.specs.Bits.{bit}
 use Rattle.pages.specs.Geometry.{selector_pages, directory_pages, table_pages}
-use Rattle.pages.specs.Store.{Image, Kept, version, area}
-use Rattle.pages.specs.Commit.{first_image}
+use Rattle.pages.specs.Store.{Image, Kept, area}
 use Rattle.pages.proofs.Words.{length_part, length_patched, part_more, all_small_part, all_small_patched, all_small_cons, all_small_nil, getD_patched, getD_patched_before, getD_patched_after, patched_all, length_zeros, all_small_zeros}
-use Rattle.mailboxes.specs.Directory.{count_up, house_of, Sound}
+use Rattle.mailboxes.specs.Directory.{count_up}
 use Rattle.mailboxes.proofs.Places.{count_up_push}
 use Rattle.house.specs.declared.phase.Phase.{Phase}
 use Rattle.house.specs.declared.phase.Phase.TheVariants.{Idle, Committed, Shown}
-use Rattle.house.specs.Memory.{in_phase, coming_of, to_show, phase_words}
+use Rattle.house.specs.Memory.{in_phase}
 use Rattle.house.specs.Machine.{own, go, commit, committed, next_told}
-use Rattle.house.proofs.Course.{Course}
 use Rattle.house.proofs.Works.{Works, works_goes}
 use Rattle.house.proofs.Places.{house_back}
-use Rattle.house.proofs.Fronts.{world, step_to, then_shows, then_ends}
-use Rattle.house.proofs.Regions.{Mem, length_header, small_header, length_coming, small_coming, length_dir, small_dir, length_counting, to_phase, to_counting, reg_is}
+use Rattle.house.proofs.Fronts.{world, then_shows, then_ends}
+use Rattle.house.proofs.Regions.{Mem, length_header, small_header, length_coming, small_coming, length_dir, small_dir, length_counting, to_phase, to_counting}
 use Rattle.house.proofs.Rest.{WholePages, Stands, CommittedImage, Stored, Down, Beside, Up, directory_on}
-use Rattle.house.proofs.Steps.{Fit, stands_fit, step_next, step_said, shown_is}
+use Rattle.house.proofs.Steps.{Fit, stands_fit, step_next, shown_is}
 use Rattle.house.proofs.Pages.{down_stopped}
 use Rattle.house.specs.Knows.{known}
 use Rattle.house.proofs.Does.{SafeAt, Does}

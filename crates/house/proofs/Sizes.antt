@@ -1,8 +1,8 @@
 -- Every page has 512 bytes, whatever a stop leaves of writes of whole pages.
-use Rattle.std.proofs.Common.{◌≡◌, ℕ, zero, suc, ◌+◌, ◌<◌, ◌≤◌, Bool, true, false, ◌&&◌, eqb, ltb, List, [], ◌∷◌, ◌++◌, length, take, drop, sym, refl, ap, ◌∙◌, subst, arith, eq-eqb, eqb-true}
+use Rattle.std.proofs.Common.{◌≡◌, ℕ, zero, suc, Bool, true, ◌&&◌, eqb, ltb, List, [], ◌∷◌, ◌++◌, length, take, drop, arith, eq-eqb, eqb-true}
 use Rattle.std.proofs.lemmas.List.{length-append, length-take, length-drop}
 use Rattle.model.specs.Mail.{every}
-use Rattle.model.specs.Device.{Page, Write, set_page, page_at, half, a_page}
+use Rattle.model.specs.Device.{Page, set_page, page_at, half, a_page}
 use Rattle.pages.proofs.Harmless.{Harmless}
 use Rattle.pages.proofs.Words.{every_append, every_take, every_drop}
 use Rattle.house.proofs.Places.{and_left, and_right}

@@ -1,10 +1,10 @@
 -- The house keeps its memory's length, and its numbers below 2^64, whatever it is told (steady): function by function of its definition.
-use Rattle.std.proofs.Common.{◌≡◌, ℕ, zero, suc, ◌+◌, ◌-◌, ◌*◌, ◌/◌, ◌^◌, ◌<◌, ◌≤◌, Bool, true, false, not, ◌&&◌, eqb, ltb, leb, ◌⊎◌, List, [], ◌∷◌, ◌++◌, length, get_or, is_some, Some, None, Option, sym, refl, ◌∙◌, inl, inr, arith, MatchOption}
+use Rattle.std.proofs.Common.{◌≡◌, ℕ, zero, suc, ◌+◌, ◌-◌, ◌*◌, ◌^◌, ◌<◌, ◌≤◌, Bool, true, false, not, ◌&&◌, eqb, ltb, leb, List, [], ◌∷◌, ◌++◌, length, get_or, is_some, Some, None, Option, refl, ◌∙◌, inl, inr, arith, MatchOption}
 use Rattle.std.proofs.lemmas.Bool.{and_parts, eqb-true, ltb-true, leb-true, leb-false, true≢false}
 use Rattle.model.specs.Mail.{pick, every, all_bytes, eight}
 use Rattle.model.specs.House.{Command, join, hand_in, boxes, new_box, drop_box, list, get, set_mark, to_box, clear, rules, find, push, a_name, fits, box_row}
 use Rattle.model.specs.Device.{zeros, a_page}
-use Rattle.model.specs.Run.{Engine, Event, on, said, page, next, heard, lost, Act, read, write, flush, shows, done, refused, Step, all_small, Steady}
+use Rattle.model.specs.Run.{Event, on, said, page, next, heard, lost, Act, read, write, flush, shows, done, Step, all_small, Steady}
 use Rattle.model.specs.Promise.{Said}
 use Rattle.model.proofs.Places.{pick_both, pick_cases}
 use Rattle.pages.specs.Words.{words_in, bytes_of, part, patched}
@@ -13,14 +13,14 @@ use Rattle.pages.specs.Touched.{IsFirst, first_touched, Untouched}
 use Rattle.pages.proofs.Words.{length_words_in, all_small_words_in, all_small_part, all_small_cons, all_small_parts, length_zeros}
 use Rattle.pages.proofs.Geometry.{selector_pages_most, directory_pages_most, directory_pages_some}
 use Rattle.pages.proofs.Touched.{first_touched_says}
-use Rattle.mailboxes.specs.Directory.{person_place, box_place, find_person, find_box, count_boxes, next_box, owns, box_of, with_person, with_box, first_directory, first}
+use Rattle.mailboxes.specs.Directory.{person_place, box_place, find_person, find_box, count_boxes, next_box, owns, box_of, with_person, with_box, first_directory}
 use Rattle.mailboxes.proofs.Places.{First, first_some}
 use Rattle.mailboxes.proofs.Changes.{length_with_person, length_with_box, length_first_directory, all_small_with_person, all_small_with_box, all_small_first_directory}
 use Rattle.commands.specs.Reader.{command_of}
 use Rattle.commands.proofs.Commands.{said_or_not}
 use Rattle.house.specs.declared.phase.Phase.{Phase}
 use Rattle.house.specs.declared.phase.Phase.TheVariants.{Off, ReadHeader, ReadSelectors, ReadDirectory, Idle, ShowBoxes, WriteTable, WriteSelectors, WriteHeader, FlushHeader, Committed, Shown}
-use Rattle.house.specs.Memory.{memory_len, houses_count, pages_count, to_show, header_of, area_of, people_of, boxes_count, weight_of, counting_of, coming_of, directory_of, phase_of, phase_words, in_phase, sensible}
+use Rattle.house.specs.Memory.{memory_len, houses_count, pages_count, to_show, header_of, area_of, people_of, boxes_count, weight_of, counting_of, coming_of, directory_of, phase_of, sensible}
 use Rattle.house.specs.Machine.{refuse, go, touch_record, powered_up, first_house_made, header_read, with_selectors, selectors_read, directory_read, selectors_written, table_written, commit, selectors_next, header_written, committed, no_room, person_added, joins, box_added, makes_box, box_shown, shows_boxes, obeys, page_told, next_told, said_told, stepped, own}
 use Rattle.house.proofs.SteadyParts.{Kept, Keeps, unchanged, then_patched, then_touched, then_phase, one_small, two_small, three_small, SmallPhase, phase_of_small, length_coming, length_directory, Sense, sense}
 

@@ -1,17 +1,17 @@
 -- What keeps a memory's length and its numbers below 2^64: patches at places that lie in it, phases with small operands, and records that are touched.
-use Rattle.std.proofs.Common.{◌≡◌, ℕ, zero, suc, ◌+◌, ◌-◌, ◌*◌, ◌/◌, ◌^◌, ◌<◌, ◌≤◌, Bool, true, false, cond, ◌&&◌, eqb, ltb, leb, List, [], ◌∷◌, ◌++◌, length, get_or, sym, refl, ◌∙◌, arith}
-use Rattle.std.proofs.lemmas.Bool.{and_parts, eqb-true, ltb-true, leb-true}
-use Rattle.model.specs.Run.{all_small, Act, Step}
-use Rattle.pages.specs.Words.{part, patched}
+use Rattle.std.proofs.Common.{◌≡◌, ℕ, ◌+◌, ◌*◌, ◌/◌, ◌^◌, ◌<◌, ◌≤◌, Bool, true, false, cond, ◌&&◌, eqb, ltb, leb, List, [], ◌∷◌, length, get_or, refl, ◌∙◌, arith}
+use Rattle.std.proofs.lemmas.Bool.{and_parts, eqb-true, leb-true}
+use Rattle.model.specs.Run.{all_small, Step}
+use Rattle.pages.specs.Words.{patched}
 use Rattle.pages.specs.Bits.{touched}
 use Rattle.pages.specs.Geometry.{selector_pages, directory_pages}
-use Rattle.pages.proofs.Words.{length_patched, all_small_patched, length_part, all_small_part, all_small_cons, all_small_parts, all_small_nil, all_small_getD}
+use Rattle.pages.proofs.Words.{length_patched, all_small_patched, length_part, all_small_part, all_small_cons, all_small_nil, all_small_getD}
 use Rattle.pages.proofs.Bits.{length_touched, all_small_touched}
 use Rattle.pages.proofs.Geometry.{selector_pages_most, directory_pages_most}
 use Rattle.house.specs.declared.phase.Phase.{Phase}
 use Rattle.house.specs.declared.phase.Phase.TheVariants.{Off, ReadHeader, ReadSelectors, ReadDirectory, Idle, ShowBoxes, WriteTable, WriteSelectors, WriteHeader, FlushHeader, Committed, Shown}
 use Rattle.house.specs.Memory.{memory_len, houses_count, pages_count, area_of, people_of, boxes_count, counting_of, coming_of, directory_of, phase_in, phase_of, phase_words, in_phase, sensible}
-use Rattle.house.specs.Machine.{go, touch_record}
+use Rattle.house.specs.Machine.{touch_record}
 
 pub record Kept (m m' : List ℕ) : Type 0 where
   pub long : length m' ≡ length m

@@ -4,7 +4,7 @@ use Rattle.std.proofs.lemmas.Bool.{and_parts, and_from, leb-true, eq-eqb, ne_eqb
 use Rattle.std.specs.Option.{option_map}
 use Rattle.model.specs.Mail.{every, all_bytes}
 use Rattle.model.specs.Mail.{Test, Rule}
-use Rattle.model.specs.House.{Command, join, hand_in, boxes, new_box, drop_box, list, get, set_mark, to_box, clear, rules, find, push, a_name, fits}
+use Rattle.model.specs.House.{Command, join, hand_in, new_box, drop_box, list, get, set_mark, to_box, clear, rules, find, push, a_name, fits}
 use Rattle.model.specs.Device.{a_page}
 use Rattle.model.specs.Promise.{Said}
 use Rattle.model.specs.Run.{said, page, next}

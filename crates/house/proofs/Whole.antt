@@ -1,11 +1,10 @@
 -- The promise over join, boxes and new box: what is owed of one house, put together, and from it the whole.
-use Rattle.std.proofs.Common.{◌≡◌, ℕ, zero, suc, ◌<◌, ◌≤◌, Bool, true, false, List, [], length, sym, refl, ap, ◌∙◌, subst}
+use Rattle.std.proofs.Common.{◌≡◌, ℕ, ◌≤◌, Bool, true, List}
 use mathlib.Core.Bool.{false≢true}
-use Rattle.model.specs.House.{Command, push, House, Plain, house_at}
+use Rattle.model.specs.House.{push, Plain, house_at}
 use Rattle.model.specs.Known.{also, nothing}
-use Rattle.model.specs.Device.{Device, stopped}
-use Rattle.model.specs.Run.{Engine, World, new_world}
-use Rattle.model.specs.Promise.{Whole, first_house}
+use Rattle.model.specs.Run.{World}
+use Rattle.model.specs.Promise.{Whole}
 use Rattle.house.specs.Machine.{own}
 use Rattle.house.proofs.Houses.{HouseProof, all_right}
 use Rattle.house.proofs.Rest.{Down, Up}

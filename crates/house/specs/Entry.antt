@@ -1,7 +1,7 @@
 -- How a step of the house is told to the world outside: an event is a kind and some bytes, an act is an enum, and the bytes that go with it stand in a lent row.
-use Rattle.std.specs.Prelude.{◌≡◌, ℕ, zero, suc, ◌+◌, ◌-◌, ◌*◌, ◌/◌, ◌%◌, ◌<◌, ◌≤◌, Bool, true, false, not, ◌&&◌, List, [], ◌∷◌, ◌++◌, length, take, drop, ◌==◌, nat_le}
+use Rattle.std.specs.Prelude.{◌≡◌, ℕ, ◌+◌, ◌*◌, Bool, true, false, ◌&&◌, List, [], ◌∷◌, ◌++◌, length, take, drop, ◌==◌, nat_le}
 use Rattle.model.specs.Mail.{pick}
-use Rattle.model.specs.Run.{Engine, Event, on, said, page, next, heard, lost, Act, read, write, flush, shows, send, done, refused, Step}
+use Rattle.model.specs.Run.{Event, on, said, page, next, heard, lost, Act, read, write, flush, shows, send, done, refused}
 use Rattle.house.specs.declared.Told.{Told}
 use Rattle.house.specs.declared.Told.TheVariants.{Read, Write, Flush, Shows, Send, Done, No}
 use Rattle.house.specs.Machine.{own}

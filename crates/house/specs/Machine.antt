@@ -1,10 +1,10 @@
 -- The house as a definition: what one step makes of a memory and an event, and which act it does. Power-up, commit, and the commands join, boxes
 -- and new box. What is told out of turn, or to a memory that makes no sense, is refused, and the memory stays as it is.
-use Rattle.std.specs.Prelude.{ℕ, ◌+◌, ◌-◌, ◌*◌, ◌/◌, Bool, true, false, not, ◌&&◌, List, [], ◌∷◌, ◌++◌, length, is_some, Some, None, Option, ◌==◌, nat_le, nat_lt, slice_index}
+use Rattle.std.specs.Prelude.{ℕ, ◌+◌, ◌-◌, ◌*◌, ◌/◌, Bool, not, ◌&&◌, List, [], ◌∷◌, ◌++◌, length, is_some, Some, None, Option, ◌==◌, nat_le, nat_lt, slice_index}
 use Rattle.model.specs.Mail.{pick, eight}
 use Rattle.model.specs.House.{Command, join, hand_in, boxes, new_box, drop_box, list, get, set_mark, to_box, clear, rules, find, push, box_row}
 use Rattle.model.specs.Device.{zeros, a_page}
-use Rattle.model.specs.Run.{Engine, Event, on, said, page, next, heard, lost, Act, read, write, flush, shows, send, done, refused, Step}
+use Rattle.model.specs.Run.{Engine, Event, on, said, page, next, heard, lost, Act, read, write, flush, shows, done, refused, Step}
 use Rattle.pages.specs.Words.{words_in, bytes_of, part, patched}
 use Rattle.pages.specs.Bits.{touched}
 use Rattle.pages.specs.Geometry.{selector_pages, directory_pages, selector_place, table_place}
@@ -13,7 +13,7 @@ use Rattle.mailboxes.specs.Directory.{person_place, box_place, find_person, find
 use Rattle.commands.specs.Reader.{command_of}
 use Rattle.house.specs.declared.phase.Phase.{Phase}
 use Rattle.house.specs.declared.phase.Phase.TheVariants.{Off, ReadHeader, ReadSelectors, ReadDirectory, Idle, ShowBoxes, WriteTable, WriteSelectors, WriteHeader, FlushHeader, Committed, Shown}
-use Rattle.house.specs.Memory.{memory_len, houses_count, pages_count, to_show, header_of, area_of, people_of, boxes_count, weight_of, counting_of, coming_of, directory_of, phase_of, phase_words, in_phase, sensible}
+use Rattle.house.specs.Memory.{memory_len, houses_count, pages_count, to_show, header_of, area_of, people_of, boxes_count, weight_of, counting_of, coming_of, directory_of, phase_of, in_phase, sensible}
 
 abbrev pub refuse : ℕ → List ℕ → Step
 refuse k m = record { memory = m; act = refused k }

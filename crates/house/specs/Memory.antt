@@ -1,5 +1,5 @@
 -- The memory of a house: which numbers of it hold what.
-use Rattle.std.specs.Prelude.{ℕ, ◌+◌, ◌*◌, Bool, true, false, cond, ◌&&◌, List, [], ◌∷◌, ◌++◌, length, ◌==◌, nat_le, nat_lt, slice_index}
+use Rattle.std.specs.Prelude.{ℕ, ◌+◌, ◌*◌, Bool, cond, ◌&&◌, List, [], ◌∷◌, length, ◌==◌, nat_le, nat_lt, slice_index}
 use Rattle.pages.specs.Words.{part, patched}
 use Rattle.pages.specs.Geometry.{selector_pages, directory_pages}
 use Rattle.house.specs.declared.phase.Phase.{Phase}

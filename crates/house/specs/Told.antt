@@ -1,5 +1,5 @@
 -- What the code's enums mean: events, refusals, and acts as two numbers.
-use Rattle.std.specs.Prelude.{◌≡◌, ℕ, Bool, true, false, List, [], ◌∷◌, length, Some, None, Option, ◌==◌}
+use Rattle.std.specs.Prelude.{◌≡◌, ℕ, Bool, true, false, List, [], ◌∷◌, length, ◌==◌}
 use Rattle.model.specs.Run as run
 use Rattle.model.specs.Run.{Engine, Step}
 use Rattle.house.specs.declared.event.Event.{Event}

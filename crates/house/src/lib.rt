@@ -1,5 +1,7 @@
 // The house as a machine: one step takes a memory and an event to the memory afterwards and one act. The step is the definition `own`, for
 // every memory and every event, and of that definition the promise of the whole post is proved. It knows no files, no clock and no chance.
+#![tactic(auto)]
+
 mod commit;
 mod event;
 mod export;

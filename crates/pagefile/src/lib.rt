@@ -1,5 +1,7 @@
 // Pages of 512 bytes, each at its place in a file: a disk for a host. It promises that a file has as many pages as a house may have and that every page
 // lies within it; what a file does with what is written is not for it to say.
+#![tactic(auto)]
+
 ghost use Rattle.std.specs.Prelude.{◌≡◌, ◌+◌, ◌*◌, ◌<◌, ◌≤◌, IfOk, MatchResult};
 
 use host::Disk;

@@ -1,5 +1,7 @@
 // Plays days of a house, made from numbers, with power lost at any act, and says what happened in each. Where the house is not as the
 // plain house, the day is printed, and the program ends with status 1.
+#![tactic(auto)]
+
 mod bench;
 mod options;
 

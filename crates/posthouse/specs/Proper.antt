@@ -1,6 +1,5 @@
 -- What may be asked for on the command line.
 use Rattle.std.specs.Prelude.{ℕ, ◌<◌, ◌≤◌, Some, None, Option}
-use Rattle.posthouse.specs.declared.options.Options.{Options}
 use Rattle.posthouse.specs.declared.options.Wish.{Wish}
 use Rattle.posthouse.specs.declared.options.Wish.TheVariants.{Help, House, Bad}
 

@@ -1,5 +1,7 @@
 // A house on a file of pages: commands come on standard input, one to a line in hexadecimal, and what the house shows goes to standard
 // output, each row on a line, then "done" or "refused" with a number.
+#![tactic(auto)]
+
 mod options;
 mod session;
 

@@ -1,6 +1,5 @@
 -- The page that is found is the first that was touched.
 use Rattle.std.proofs.Common.{Some, None, sym, refl}
-use Rattle.pages.specs.Geometry.{directory_pages}
 use Rattle.house.specs.Machine.{commit}
 use Rattle.house.proofs.Touches.{next_is, next_below}
 use Rattle.house.proofs.commit.commit.Goals as goal

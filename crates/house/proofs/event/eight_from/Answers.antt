@@ -1,4 +1,3 @@
-use Rattle.std.proofs.Common.{sym, refl, ap, ◌∙◌}
 use native.Mathlib.Nat.{sub-zero}
 use Rattle.house.proofs.Bytes.{drop_min, take_min}
 use Rattle.std.proofs.lemmas.List.{take_rest}

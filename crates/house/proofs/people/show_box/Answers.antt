@@ -1,5 +1,5 @@
 -- The next box is found as the definition finds it, and its row fits.
-use Rattle.std.proofs.Common.{◌≡◌, ℕ, ◌+◌, List, ◌++◌, length, drop, Some, None, ap, ◌∙◌}
+use Rattle.std.proofs.Common.{◌≡◌, ℕ, List, ◌++◌, length, drop, Some, None, ap, ◌∙◌}
 use Rattle.model.specs.House.{box_row}
 use Rattle.mailboxes.specs.Directory.{box_of}
 use Rattle.mailboxes.specs.Row.{row_over}

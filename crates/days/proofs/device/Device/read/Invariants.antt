@@ -1,4 +1,4 @@
-use Rattle.std.proofs.Common.{◌≡◌, length, drop, vec_items}
+use Rattle.std.proofs.Common.{◌≡◌, drop, vec_items}
 use Rattle.days.proofs.Pages.{seen}
 use Rattle.days.proofs.device.Device.read.Given as goal
 

@@ -1,6 +1,5 @@
-use Rattle.std.proofs.Common.{sym, refl, ap, ◌∙◌, arith}
-use Rattle.model.specs.Run.{on}
-use Rattle.house.specs.Entry.{event_of, from_eight}
+use Rattle.std.proofs.Common.{sym, ap, arith}
+use Rattle.house.specs.Entry.{event_of}
 use Rattle.house.proofs.event.Event.of.Goals as goal
 
 pub returns-in-0 : goal.returns-in-0

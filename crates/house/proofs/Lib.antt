@@ -8,6 +8,7 @@ pub mod Pushes
 pub mod Letters
 pub mod Bytes
 pub mod Houses
+pub mod Pairs
 pub mod Taken
 pub mod Writes
 pub mod Sensible
@@ -36,5 +37,6 @@ pub mod Keeps
 pub mod SteadyParts
 pub mod Steady
 pub mod Whole
+pub mod WholePairs
 pub mod Joins
 pub mod Turns

@@ -1,10 +1,9 @@
 -- The promise over join, boxes and new box: what is owed of one house, put together, and from it the whole.
-use Rattle.std.proofs.Common.{◌≡◌, ℕ, ◌≤◌, Bool, true, List}
-use mathlib.Core.Bool.{false≢true}
-use Rattle.model.specs.House.{push, Plain, house_at}
-use Rattle.model.specs.Known.{also, nothing}
-use Rattle.model.specs.Run.{World}
-use Rattle.model.specs.Promise.{Whole}
+use Rattle.std.proofs.Common.{◌≡◌, ℕ, zero, suc, ◌<◌, ◌≤◌, Bool, true, false, List, [], length, sym, refl, ap, ◌∙◌, subst}
+use Rattle.model.specs.House.{Command, House, Plain, house_at}
+use Rattle.model.specs.Device.{Device, stopped}
+use Rattle.model.specs.Run.{Engine, World, new_world}
+use Rattle.model.specs.Promise.{Whole, first_house}
 use Rattle.house.specs.Machine.{own}
 use Rattle.house.proofs.Houses.{HouseProof, all_right}
 use Rattle.house.proofs.Rest.{Down, Up}
@@ -16,13 +15,8 @@ use Rattle.house.proofs.Obeyed.{does_any}
 use Rattle.house.proofs.Keeps.{keeps_person, keeps_box}
 use Rattle.house.proofs.Steady.{steady}
 
--- pushes are not known yet
-no_pushes : (d : ℕ) → known (push d) ≡ true → ⊥
-unfolding also nothing
-no_pushes d h = false≢true h
-
 module _ (P n : ℕ) (low : 256 ≤ P) (high : P ≤ 1048576) (few : n ≤ 16) where
-  does : (s : Plain) (c : ℕ) (v : World) (text : List ℕ) (ls : ℕ) (up : Bool) → Up P n (house_at s c) v → Does P n s c text ls up v
+  pub does : (s : Plain) (c : ℕ) (v : World) (text : List ℕ) (ls : ℕ) (up : Bool) → Up P n (house_at s c) v → Does P n s c text ls up v
   does s c v text ls up u =
       does_any P n s c text ls up v low few u
       (λ nm said can. keeps_person P n low high few s c text ls up v u nm said can)
@@ -38,9 +32,7 @@ module _ (P n : ℕ) (low : 256 ≤ P) (high : P ≤ 1048576) (few : n ≤ 16) w
     fewer_down = λ b c h d r. r;
     at_rest = λ b c h v u cs. down_stopped P n h v.device u.down cs;
     wakes = λ b c h v l r. wakes P n c low high few h v l r;
-    does = λ b c s v text ls up l e u rd q. does s c v text ls up u;
-    pushes = λ b c d s w v text l rd r u x. absurd (no_pushes d r.knows);
-    pushes_dark = λ b c d s w v text l rd r u x. absurd (no_pushes d r.knows);
+    does = λ b c s v text ls up l e u. does s c v text ls up u;
   }
 
 pub whole : Whole known own

@@ -9,6 +9,7 @@ use anyhow::anyhow;
 use days::{Day, Difference, Outcome, Tally, make_day, play_day};
 use options::{Options, Wish};
 use std::env;
+use std::process::ExitCode;
 
 const HELP: &str = "player: plays days of a post house, and says where it is not as it should be
 
@@ -99,17 +100,25 @@ fn play_days(rt: &HostRuntime, options: &Options) -> anyhow::Result<()> {
     Ok(())
 }
 
-fn main(rt: HostRuntime) -> anyhow::Result<()> {
-    match options::read(env::args(&rt)?) {
+fn start(rt: &HostRuntime) -> anyhow::Result<()> {
+    match options::read(env::args(rt)?) {
         Wish::Help => {
             rt.println(HELP)?;
             Ok(())
         }
         Wish::Bad(message) => {
-            eprintln!(&rt; "player: {message}")?;
+            eprintln!(rt; "player: {message}")?;
             Err(anyhow!("nothing was done"))
         }
-        Wish::Play(options) => play_days(&rt, &options),
-        Wish::Bench => bench::print(&rt),
+        Wish::Play(options) => play_days(rt, &options),
+        Wish::Bench => bench::print(rt),
+    }
+}
+
+// What went wrong was told where it was met; what is left to say is the status.
+fn main(rt: HostRuntime) -> ExitCode {
+    match start(&rt) {
+        Ok(()) => ExitCode::SUCCESS,
+        Err(_) => ExitCode::FAILURE,
     }
 }

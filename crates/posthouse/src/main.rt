@@ -10,6 +10,7 @@ use host::{Disk, Machine};
 use options::{Options, Wish};
 use pagefile::{OpenError, PageFile};
 use session::Session;
+use std::process::ExitCode;
 use std::{env, fs};
 
 const HELP: &str = "posthouse: a post house on a file of pages
@@ -80,13 +81,21 @@ fn keep_house(rt: &HostRuntime, options: &Options) -> anyhow::Result<()> {
     }
 }
 
-fn main(rt: HostRuntime) -> anyhow::Result<()> {
-    match options::read(env::args(&rt)?) {
+fn start(rt: &HostRuntime) -> anyhow::Result<()> {
+    match options::read(env::args(rt)?) {
         Wish::Help => {
             rt.println(HELP)?;
             Ok(())
         }
-        Wish::Bad(message) => complain(&rt, message),
-        Wish::House(options) => keep_house(&rt, &options),
+        Wish::Bad(message) => complain(rt, message),
+        Wish::House(options) => keep_house(rt, &options),
+    }
+}
+
+// What went wrong was told where it was met; what is left to say is the status.
+fn main(rt: HostRuntime) -> ExitCode {
+    match start(&rt) {
+        Ok(()) => ExitCode::SUCCESS,
+        Err(_) => ExitCode::FAILURE,
     }
 }

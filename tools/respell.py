@@ -22,6 +22,8 @@ OWN = re.compile(r"Rattle\.(?:%s)\." % "|".join(re.findall(r"^(\w+)(?: \w+)*:", 
 MADE = re.compile(r"\.(?:Goals|Given|declared|contracts)\b")
 HYPHENS = re.compile(r"\w['₀-₉]*-\w")
 RENAMED_CRATES = {"hex": "hexadecimal"}
+# what the library's functions are called today, in the names of lemmas about them
+RENAMED_WORDS = {"getD": "get_or", "putMid": "put_mid"}
 
 
 def read(path):
@@ -80,7 +82,9 @@ def main():
                     types.add(name)
 
     def new_name(name):
-        return camel(name) if name in types or name[0].isupper() else name.replace("-", "_")
+        if name in types or name[0].isupper():
+            return camel(name)
+        return "_".join(RENAMED_WORDS.get(it, it) for it in name.split("-"))
 
     table = {}
 

@@ -11,7 +11,7 @@ use Rattle.pages.specs.Bits.{bit}
 use Rattle.pages.specs.Geometry.{selector_pages, directory_pages, table_pages, selector_place, table_place}
 use Rattle.pages.specs.Touched.{first_touched, Untouched, IsFirst}
 use Rattle.pages.specs.Store.{Image, Kept, area}
-use Rattle.pages.proofs.Words.{page_of_words, length_part, length_patched, length_bytes_of, all_bytes_of, length_zeros, getD_patched, every_append, all_small_cons, all_small_nil}
+use Rattle.pages.proofs.Words.{page_of_words, length_part, length_patched, length_bytes_of, all_bytes_of, length_zeros, get_or_patched, every_append, all_small_cons, all_small_nil}
 use Rattle.mailboxes.proofs.Names.{all_bytes_zeros}
 use Rattle.pages.proofs.Touched.{first_touched_says}
 use Rattle.pages.proofs.Geometry.{table_place_lt, selector_place_lt, selector_pages_most, selector_pages_some, directory_pages_most}
@@ -75,7 +75,7 @@ module _ (P : ℕ) (low : 256 ≤ P) (high : P ≤ 1048576) (u : Bool) (s : Imag
       go_flushes i d m m₁ ev e s g = first_flushes own Safe Then i u d m m₁ ev e s g
 
       turned_area : area s' ≡ 1 - get_or header 1 0
-      turned_area = getD_patched header 1 ((1 - get_or header 1 0) ∷ []) 0 0 (omega arith) (omega arith)
+      turned_area = get_or_patched header 1 ((1 - get_or header 1 0) ∷ []) 0 0 (omega arith) (omega arith)
 
       follows : Follows P s s' AnyBodies AnyBodies
       follows = record {

@@ -6,7 +6,7 @@ use Rattle.model.specs.Run.{done, shows}
 use Rattle.pages.specs.Words.{part, patched}
 use Rattle.pages.specs.Bits.{touched}
 use Rattle.pages.specs.Geometry.{selector_pages, directory_pages}
-use Rattle.pages.proofs.Words.{length_part, length_patched, getD_patched_before, getD_patched_after}
+use Rattle.pages.proofs.Words.{length_part, length_patched, get_or_patched_before, get_or_patched_after}
 use Rattle.pages.proofs.Bits.{length_touched}
 use Rattle.mailboxes.specs.Directory.{person_place, box_place, owns, find_person, find_box, count_boxes, next_box, box_of, with_person, with_box}
 use Rattle.mailboxes.specs.Row.{row_fits}
@@ -97,7 +97,7 @@ module _ (P a from : ℕ) (m : List ℕ) where
 -- the area stays as it was
 touch_area : (P at : ℕ) (m : List ℕ) → length m ≡ 262144 → area_of (touch_record P at m) ≡ area_of m
 unfolding touch_record
-touch_area P at m long = getD_patched_before m 1184 _ 65 0 (omega arith) (omega arith)
+touch_area P at m long = get_or_patched_before m 1184 _ 65 0 (omega arith) (omega arith)
 
 touched_length : (m : List ℕ) (n t u : ℕ) → n ≤ 1088 → length m ≡ 262144 → length (patched m 1184 (touched (part m 96 n) (touched (part m 96 n) (part m 1184 n) t) u)) ≡ 262144
 touched_length m n t u h long =
@@ -114,9 +114,9 @@ registers_area : (l cs : List ℕ) (at w x : ℕ) → length l ≡ 262144 → 66
 registers_area l cs at w x long h k =
     let l₁ : length (patched l at cs) ≡ 262144 = length_patched l at cs (omega arith) ∙ long in
     let l₂ : length (patched (patched l at cs) 70 (w ∷ [])) ≡ 262144 = length_patched (patched l at cs) 70 (w ∷ []) (omega arith) ∙ l₁ in
-    getD_patched_after (patched (patched l at cs) 70 (w ∷ [])) 6 (x ∷ []) 65 0 (omega arith) (omega arith)
-    ∙ getD_patched_before (patched l at cs) 70 (w ∷ []) 65 0 (omega arith) (omega arith)
-    ∙ getD_patched_before l at cs 65 0 (omega arith) (omega arith)
+    get_or_patched_after (patched (patched l at cs) 70 (w ∷ [])) 6 (x ∷ []) 65 0 (omega arith) (omega arith)
+    ∙ get_or_patched_before (patched l at cs) 70 (w ∷ []) 65 0 (omega arith) (omega arith)
+    ∙ get_or_patched_before l at cs 65 0 (omega arith) (omega arith)
 
 directory_length : (m ws : List ℕ) (n : ℕ) → length m ≡ 262144 → n ≤ 197504 → length ws ≡ n → length (patched m 2272 ws) ≡ 262144
 directory_length m ws n long most e = length_patched m 2272 ws (omega arith) ∙ long
@@ -136,7 +136,7 @@ module _ (P : ℕ) (nm m : List ℕ) (d : ℕ) (size : P ≤ 1048576) (long : le
       registers_area (touch_record P (box_place (boxes_count m)) (touch_record P (person_place (people_of m)) (patched m 2272 new))) ((people_of m + 1) ∷ (boxes_count m + 1) ∷ []) 66 _ _ l₃ (omega arith) (omega arith)
       ∙ touch_area P (box_place (boxes_count m)) (touch_record P (person_place (people_of m)) (patched m 2272 new)) l₂
       ∙ touch_area P (person_place (people_of m)) (patched m 2272 new) l₁
-      ∙ getD_patched_before m 2272 new 65 0 (omega arith) (omega arith)
+      ∙ get_or_patched_before m 2272 new 65 0 (omega arith) (omega arith)
 
   pub box_area : (a : ℕ) → area_of (box_added P a nm m) ≡ area_of m
   unfolding box_added
@@ -147,4 +147,4 @@ module _ (P : ℕ) (nm m : List ℕ) (d : ℕ) (size : P ≤ 1048576) (long : le
       let l₂ = touch_length P (box_place (boxes_count m)) (patched m 2272 new) size l₁ in
       registers_area (touch_record P (box_place (boxes_count m)) (patched m 2272 new)) ((boxes_count m + 1) ∷ []) 67 _ _ l₂ (omega arith) (omega arith)
       ∙ touch_area P (box_place (boxes_count m)) (patched m 2272 new) l₁
-      ∙ getD_patched_before m 2272 new 65 0 (omega arith) (omega arith)
+      ∙ get_or_patched_before m 2272 new 65 0 (omega arith) (omega arith)

@@ -7,7 +7,7 @@ use Rattle.model.specs.Promise.{Said}
 use Rattle.model.specs.Known.{also, nothing}
 use Rattle.pages.specs.Words.{patched}
 use Rattle.pages.specs.Geometry.{selector_pages, directory_pages}
-use Rattle.pages.proofs.Words.{length_patched, getD_patched, getD_patched_before, patched_all, all_small_cons, all_small_nil}
+use Rattle.pages.proofs.Words.{length_patched, get_or_patched, get_or_patched_before, patched_all, all_small_cons, all_small_nil}
 use Rattle.pages.proofs.Geometry.{selector_within, directory_pages_most}
 use Rattle.mailboxes.specs.Directory.{person_place, box_place, with_person, with_box, house_of}
 use Rattle.mailboxes.proofs.Changes.{length_with_person, length_with_box, with_person_house, with_person_sound, with_box_house, with_box_sound, all_small_with_person, all_small_with_box, with_person_page, with_box_page}
@@ -30,13 +30,13 @@ module _ (header : List ℕ) (long : length header ≡ 32) (i : ℕ) (ws : List 
   counts_long = length_patched header i ws (omega arith) ∙ long
 
   header_early : (j : ℕ) → j < i → get_or (patched (patched header i ws) 6 (w ∷ [])) j 0 ≡ get_or header j 0
-  header_early j k = getD_patched_before (patched header i ws) 6 (w ∷ []) j 0 (omega (arith, counts_long)) (omega arith) ∙ getD_patched_before header i ws j 0 (omega arith) k
+  header_early j k = get_or_patched_before (patched header i ws) 6 (w ∷ []) j 0 (omega (arith, counts_long)) (omega arith) ∙ get_or_patched_before header i ws j 0 (omega arith) k
 
   header_middle : (k : ℕ) → k < length ws → get_or (patched (patched header i ws) 6 (w ∷ [])) (i + k) 0 ≡ get_or ws k 0
-  header_middle k h = getD_patched_before (patched header i ws) 6 (w ∷ []) (i + k) 0 (omega (arith, counts_long)) (omega arith) ∙ getD_patched header i ws k 0 (omega arith) h
+  header_middle k h = get_or_patched_before (patched header i ws) 6 (w ∷ []) (i + k) 0 (omega (arith, counts_long)) (omega arith) ∙ get_or_patched header i ws k 0 (omega arith) h
 
   header_six : get_or (patched (patched header i ws) 6 (w ∷ [])) 6 0 ≡ w
-  header_six = getD_patched (patched header i ws) 6 (w ∷ []) 0 0 (omega (arith, counts_long)) (omega arith)
+  header_six = get_or_patched (patched header i ws) 6 (w ∷ []) 0 0 (omega (arith, counts_long)) (omega arith)
 
 module _ (P n : ℕ) (low : 256 ≤ P) (high : P ≤ 1048576) (few : n ≤ 16) (s : Plain) (c : ℕ) (text : List ℕ) (ls : ℕ) (up : Bool) (v : World) (U : Up P n (house_at s c) v) where
   abbrev people : ℕ

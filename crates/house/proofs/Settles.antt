@@ -10,7 +10,7 @@ use Rattle.model.specs.Promise.{Said, May, Mid, TurnMay, NoPush}
 use Rattle.pages.specs.Words.{part, patched}
 use Rattle.pages.specs.Geometry.{selector_pages, directory_pages, table_pages}
 use Rattle.pages.specs.Store.{Image, Kept, area}
-use Rattle.pages.proofs.Words.{length_part, length_patched, part_more, all_small_part, all_small_patched, all_small_cons, all_small_nil, getD_patched, getD_patched_before, getD_patched_after, patched_all, length_zeros, all_small_zeros}
+use Rattle.pages.proofs.Words.{length_part, length_patched, part_more, all_small_part, all_small_patched, all_small_cons, all_small_nil, get_or_patched, get_or_patched_before, get_or_patched_after, patched_all, length_zeros, all_small_zeros}
 use Rattle.mailboxes.specs.Directory.{count_up}
 use Rattle.mailboxes.proofs.Places.{count_up_push}
 use Rattle.house.specs.declared.phase.Phase.{Phase}
@@ -50,13 +50,13 @@ flat_pages f dir (suc k) same =
 -- the header whose area was turned says the same otherwise
 module _ (header : List ℕ) (long : length header ≡ 32) where
   turned_before : get_or (turned_header header) 0 0 ≡ get_or header 0 0
-  turned_before = getD_patched_before header 1 ((1 - get_or header 1 0) ∷ []) 0 0 (omega arith) (omega arith)
+  turned_before = get_or_patched_before header 1 ((1 - get_or header 1 0) ∷ []) 0 0 (omega arith) (omega arith)
 
   turned_at : get_or (turned_header header) 1 0 ≡ 1 - get_or header 1 0
-  turned_at = getD_patched header 1 ((1 - get_or header 1 0) ∷ []) 0 0 (omega arith) (omega arith)
+  turned_at = get_or_patched header 1 ((1 - get_or header 1 0) ∷ []) 0 0 (omega arith) (omega arith)
 
   turned_after : (i : ℕ) → 2 ≤ i → get_or (turned_header header) i 0 ≡ get_or header i 0
-  turned_after i l = getD_patched_after header 1 ((1 - get_or header 1 0) ∷ []) i 0 (omega arith) (omega arith)
+  turned_after i l = get_or_patched_after header 1 ((1 - get_or header 1 0) ∷ []) i 0 (omega arith) (omega arith)
 
   turned_stands : (P n : ℕ) (dir : List ℕ) (h : House) → Stands P n header dir h → Stands P n (turned_header header) dir h
   turned_stands P n dir h s = record {

@@ -5,7 +5,7 @@ use Rattle.model.specs.Run.{all_small, Step}
 use Rattle.pages.specs.Words.{patched}
 use Rattle.pages.specs.Bits.{touched}
 use Rattle.pages.specs.Geometry.{selector_pages, directory_pages}
-use Rattle.pages.proofs.Words.{length_patched, all_small_patched, length_part, all_small_part, all_small_cons, all_small_nil, all_small_getD}
+use Rattle.pages.proofs.Words.{length_patched, all_small_patched, length_part, all_small_part, all_small_cons, all_small_nil, all_small_get_or}
 use Rattle.pages.proofs.Bits.{length_touched, all_small_touched}
 use Rattle.pages.proofs.Geometry.{selector_pages_most, directory_pages_most}
 use Rattle.house.specs.declared.phase.Phase.{Phase}
@@ -86,7 +86,7 @@ phase_in_small tag x y lx ly =
     three_small 0 0 0 (omega arith) (omega arith) (omega arith))))))))))))
 
 pub phase_of_small : (m : List ℕ) → all_small m ≡ true → SmallPhase (phase_of m)
-phase_of_small m h = phase_in_small (get_or m 0 0) (get_or m 1 0) (get_or m 2 0) (all_small_getD m 1 h) (all_small_getD m 2 h)
+phase_of_small m h = phase_in_small (get_or m 0 0) (get_or m 1 0) (get_or m 2 0) (all_small_get_or m 1 h) (all_small_get_or m 2 h)
 
 -- regions of a memory
 

@@ -9,7 +9,7 @@ use Rattle.pages.specs.Words.{words_in, bytes_of, part, patched}
 use Rattle.pages.specs.Geometry.{selector_pages, directory_pages, selector_place, table_place}
 use Rattle.pages.specs.Store.{Image, area}
 use Rattle.pages.specs.Commit.{first_image}
-use Rattle.pages.proofs.Words.{length_patched, all_small_patched, part_patched_after, length_zeros, getD_zeros, take_zeros, drop_zeros, all_small_zeros, all_small_nil, all_small_cons, all_small_part, length_part, patched_all}
+use Rattle.pages.proofs.Words.{length_patched, all_small_patched, part_patched_after, length_zeros, get_or_zeros, take_zeros, drop_zeros, all_small_zeros, all_small_nil, all_small_cons, all_small_part, length_part, patched_all}
 use Rattle.pages.proofs.Geometry.{directory_pages_some, directory_pages_most, selector_pages_some, selector_pages_most, selector_place_lt, table_place_lt}
 use Rattle.mailboxes.specs.Directory.{person_place, box_place, first_directory, house_of, Sound}
 use Rattle.mailboxes.proofs.Changes.{first_directory_house, first_directory_sound, length_first_directory, all_small_first_directory, with_person_page}
@@ -118,9 +118,9 @@ module _ (P n c : ℕ) (enough : 256 ≤ P) (few : P ≤ 1048576) (houses : n �
   first_fit = record {
     pages_enough = enough;
     houses_few = houses;
-    area_small = omega (arith, getD_zeros 32 1);
-    people_few = omega (arith, getD_zeros 32 2);
-    boxes_fit = omega (arith, getD_zeros 32 3, directory_pages_some P);
+    area_small = omega (arith, get_or_zeros 32 1);
+    people_few = omega (arith, get_or_zeros 32 2);
+    boxes_fit = omega (arith, get_or_zeros 32 3, directory_pages_some P);
   }
 
   header_step : (counting coming dir m : List ℕ) → Mem P ReadHeader regs (zeros 32) counting coming dir m →
@@ -407,7 +407,7 @@ module _ (P n c : ℕ) (enough : 256 ≤ P) (few : P ≤ 1048576) (houses : n �
         let p = page_at d.pages 0 in
         let k : words_in 32 p ≡ zeros 32 = header_words p (zeros 32) (D.kept.header_kept ∙ ap (λ i. bytes_of i.header) first) (length_zeros 32) (all_small_zeros 32) in
         wakes_last m (page p) (in_phase Idle (first_house_made P m))
-        (header_step no_bits no_bits no_directory m M ∙ header_none P p m (zeros 32) k (getD_zeros 32 0))
+        (header_step no_bits no_bits no_directory m M ∙ header_none P p m (zeros 32) k (get_or_zeros 32 0))
         (record {
           powered_up = refl;
           down = D;
@@ -420,7 +420,7 @@ module _ (P n c : ℕ) (enough : 256 ≤ P) (few : P ≤ 1048576) (houses : n �
           memory_is = to_phase P ReadHeader regs first_header no_bits first_bits (first_directory no_directory) (first_house_made P m) (made m M) Idle
               (phase_small 4 0 0 (omega arith) (omega arith) (omega arith));
           beside = first_beside;
-          area_is = sym (ap (λ i. get_or i.header 1 0) first ∙ getD_zeros 32 1);
+          area_is = sym (ap (λ i. get_or i.header 1 0) first ∙ get_or_zeros 32 1);
           version_one = λ e. omega arith;
           stands = first_stands;
         })

@@ -4,7 +4,7 @@ use borrow.Rule.Slice.PartMut.{put_mid}
 use Rattle.model.specs.Mail.{pick}
 use Rattle.model.specs.Device.{zeros}
 use Rattle.pages.specs.Words.{part, patched, bytes_of, words_in}
-use Rattle.pages.proofs.Words.{length_part, length_bytes_of, length_zeros, patched_is_putMid, length_words_in, get_d_part, getD_patched_after}
+use Rattle.pages.proofs.Words.{length_part, length_bytes_of, length_zeros, patched_is_put_mid, length_words_in, get_d_part, get_or_patched_after}
 use Rattle.mailboxes.proofs.Writes.{patched_more}
 
 -- three words at the front
@@ -19,7 +19,7 @@ pub lent_part : (m : List ℕ) (a w n : ℕ) → w ≡ n → take (a + w - a) (d
 lent_part m a w n e = ap (λ k. take k (drop a m)) (omega arith)
 
 pub put_part : (m : List ℕ) (a w : ℕ) (ws : List ℕ) → length ws ≡ w → put_mid a (a + w - a) m ws ≡ patched m a ws
-put_part m a w ws e = patched_is_putMid m a (a + w) ws (omega arith)
+put_part m a w ws e = patched_is_put_mid m a (a + w) ws (omega arith)
 
 -- what is there already is written over itself
 pub patched_same : (m : List ℕ) (a n : ℕ) → a + n ≤ length m → patched m a (part m a n) ≡ m
@@ -71,7 +71,7 @@ counted_more m l n i h long lt e =
     let size : length (part m 1184 n) ≡ n = length_part m 1184 n (omega arith) in
     let front : length (take i (part m 1184 n)) ≡ i = length-take-le i (part m 1184 n) (omega arith) in
     let word : get_or l (1184 + i) 0 ≡ get_or (part m 1184 n) i 0 =
-    ap (λ x. get_or x (1184 + i) 0) e ∙ getD_patched_after m 96 (take i (part m 1184 n)) (1184 + i) 0 (omega arith) (omega arith) ∙ sym (get_d_part m 1184 n i 0 lt) in
+    ap (λ x. get_or x (1184 + i) 0) e ∙ get_or_patched_after m 96 (take i (part m 1184 n)) (1184 + i) 0 (omega arith) (omega arith) ∙ sym (get_d_part m 1184 n i 0 lt) in
     ap (λ x. set x (96 + i) (get_or l (1184 + i) 0)) e
     ∙ ap (set (patched m 96 (take i (part m 1184 n))) (96 + i)) word
     ∙ patched_more m 96 (part m 1184 n) i (omega arith) (omega arith)

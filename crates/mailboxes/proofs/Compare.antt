@@ -6,23 +6,23 @@ use Rattle.model.specs.Mail.{same}
 use Rattle.model.specs.Device.{zeros}
 use Rattle.model.specs.Promise.{from_bytes}
 use Rattle.pages.specs.Words.{words_in, part}
-use Rattle.pages.proofs.Words.{word_at_is, length_zeros, getD_zeros, get_d_part, length_part}
+use Rattle.pages.proofs.Words.{word_at_is, length_zeros, get_or_zeros, get_d_part, length_part}
 use Rattle.mailboxes.specs.Directory.{name_words, named, owner_at, owns, box_place}
 use Rattle.mailboxes.proofs.Records.{length_name_words}
 
-getD_words_in : (n i : ℕ) (bs : List ℕ) → i < n → get_or (words_in n bs) i 0 ≡ from_bytes 0 (take 8 (drop (8 * i) bs))
+get_or_words_in : (n i : ℕ) (bs : List ℕ) → i < n → get_or (words_in n bs) i 0 ≡ from_bytes 0 (take 8 (drop (8 * i) bs))
 unfolding words_in
-getD_words_in zero i bs l = absurd (omega arith)
-getD_words_in (suc n) zero bs l = refl
-getD_words_in (suc n) (suc i) bs l =
+get_or_words_in zero i bs l = absurd (omega arith)
+get_or_words_in (suc n) zero bs l = refl
+get_or_words_in (suc n) (suc i) bs l =
     let e : 8 + 8 * i ≡ 8 * suc i = omega arith in
-    getD_words_in n i (drop 8 bs) (omega arith) ∙ ap (λ r. from_bytes 0 (take 8 r)) (drop-drop (8 * i) 8 bs ∙ ap (λ m. drop m bs) e)
+    get_or_words_in n i (drop 8 bs) (omega arith) ∙ ap (λ r. from_bytes 0 (take 8 r)) (drop-drop (8 * i) 8 bs ∙ ap (λ m. drop m bs) e)
 
 padded : (nm : List ℕ) (m k : ℕ) → get_or (nm ++ zeros m) k 0 ≡ get_or nm k 0
 padded nm m k =
     elim (cases_lt k (length nm)) [
       | inl l ↦ get_or_append_left nm (zeros m) 0 k l
-      | inr l ↦ get_or-append_right nm (zeros m) (length nm) k 0 refl l ∙ getD_zeros m (k - length nm) ∙ sym (get_or_past nm k 0 l)
+      | inr l ↦ get_or-append_right nm (zeros m) (length nm) k 0 refl l ∙ get_or_zeros m (k - length nm) ∙ sym (get_or_past nm k 0 l)
     ]
 
 -- a name's word from its bytes, 0 behind its end
@@ -33,7 +33,7 @@ unfolding name_words
 name_word nm i l =
     let bs = nm ++ zeros (64 - length nm) in
     let at : (k : ℕ) → get_or bs k 0 ≡ get_or nm k 0 = padded nm (64 - length nm) in
-    getD_words_in 8 i bs l
+    get_or_words_in 8 i bs l
     ∙ sym (word_at_is bs (8 * i) (omega (arith, length-append nm (zeros (64 - length nm)), length_zeros (64 - length nm))))
     ∙ omega (arith, at (8 * i), at (8 * i + 1), at (8 * i + 2), at (8 * i + 3), at (8 * i + 4), at (8 * i + 5), at (8 * i + 6), at (8 * i + 7))
 

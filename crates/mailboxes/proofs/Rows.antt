@@ -6,7 +6,7 @@ use Rattle.model.specs.Mail.{flat, eight, with_length}
 use Rattle.model.specs.House.{box_row}
 use borrow.Rule.Slice.PartMut.{put_mid}
 use Rattle.pages.specs.Words.{bytes_of, part, patched}
-use Rattle.pages.proofs.Words.{length_eight, length_bytes_of, length_part, get_d_part, patched_next, patched_is_putMid}
+use Rattle.pages.proofs.Words.{length_eight, length_bytes_of, length_part, get_d_part, patched_next, patched_is_put_mid}
 use Rattle.mailboxes.specs.Directory.{name_at, box_place, box_of}
 use Rattle.mailboxes.specs.Row.{row_at, row_fits}
 use Rattle.mailboxes.proofs.Records.{length_row_at, box_row_of}
@@ -72,12 +72,12 @@ row_written dir at out n head name next count e room h m x k =
     let mid = 8 + n in
     let last = 8 + n + 8 in
     ap (λ r. put_mid last (last + 8 - last) (put_mid mid (mid + 8 - mid) (put_mid 8 (mid - 8) r name) next) count)
-    (patched_is_putMid out 0 8 head (omega (arith, ap length h, length_eight n)) ∙ ap (patched out 0) h)
+    (patched_is_put_mid out 0 8 head (omega (arith, ap length h, length_eight n)) ∙ ap (patched out 0) h)
     ∙ ap (λ r. put_mid last (last + 8 - last) (put_mid mid (mid + 8 - mid) r next) count)
-    (patched_is_putMid (patched out 0 (eight n)) 8 mid name (omega (arith, ap length m)) ∙ ap (patched (patched out 0 (eight n)) 8) m)
+    (patched_is_put_mid (patched out 0 (eight n)) 8 mid name (omega (arith, ap length m)) ∙ ap (patched (patched out 0 (eight n)) 8) m)
     ∙ ap (λ r. put_mid last (last + 8 - last) r count)
-    (patched_is_putMid (patched (patched out 0 (eight n)) 8 nm) mid last next (omega (arith, ap length x, length_eight w)) ∙ ap (patched (patched (patched out 0 (eight n)) 8 nm) mid) x)
-    ∙ patched_is_putMid (patched (patched (patched out 0 (eight n)) 8 nm) mid (eight w)) last (last + 8) count (omega (arith, ap length k, length_eight 0))
+    (patched_is_put_mid (patched (patched out 0 (eight n)) 8 nm) mid last next (omega (arith, ap length x, length_eight w)) ∙ ap (patched (patched (patched out 0 (eight n)) 8 nm) mid) x)
+    ∙ patched_is_put_mid (patched (patched (patched out 0 (eight n)) 8 nm) mid (eight w)) last (last + 8) count (omega (arith, ap length k, length_eight 0))
     ∙ ap (patched (patched (patched (patched out 0 (eight n)) 8 nm) mid (eight w)) last) k
     ∙ ap (λ l. patched (patched (patched (patched out 0 (eight l)) 8 nm) (8 + l) (eight w)) (8 + l + 8) (eight 0)) e
     ∙ row_pieces out nm w 0 (omega arith)

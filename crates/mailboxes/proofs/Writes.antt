@@ -3,7 +3,7 @@ use Rattle.std.proofs.Common.{◌≡◌, ℕ, ◌+◌, ◌-◌, ◌<◌, List, [
 use Rattle.std.proofs.lemmas.List.{take_more, length-take-le}
 use borrow.Rule.Slice.PartMut.{put_mid}
 use Rattle.pages.specs.Words.{patched}
-use Rattle.pages.proofs.Words.{length_patched, set_is_patched, patched_next, patched_all, patched_is_putMid}
+use Rattle.pages.proofs.Words.{length_patched, set_is_patched, patched_next, patched_all, patched_is_put_mid}
 
 pub set_next : (xs : List ℕ) (at : ℕ) (vs : List ℕ) (i w : ℕ) → at + length vs ≡ i → i < length xs → set (patched xs at vs) i w ≡ patched xs at (vs ++ w ∷ [])
 set_next xs at vs i w e l =
@@ -29,4 +29,4 @@ record_written out head next ws l m =
 
 -- a record lent to be written is a patch of all the words
 pub record_put : (words : List ℕ) (at : ℕ) (out ws : List ℕ) → out ≡ ws → length ws ≡ 12 → put_mid at (at + 12 - at) words out ≡ patched words at ws
-record_put words at out ws e l = ap (put_mid at (at + 12 - at) words) e ∙ patched_is_putMid words at (at + 12) ws (omega arith)
+record_put words at out ws e l = ap (put_mid at (at + 12 - at) words) e ∙ patched_is_put_mid words at (at + 12) ws (omega arith)

@@ -4,7 +4,7 @@ use Rattle.std.proofs.lemmas.Bool.{and_parts, and_from}
 use Rattle.model.specs.Mail.{every, those, same, Letter, has_mark, in_box}
 use Rattle.model.specs.House.{Command, House, Person, Box, Out, turn, person_at, set_person, box_of, set_box, no_box, no_person, new_one, with_people, with_letters, put_letter, put_all, put_here, marked_so, change_box, the_box, deliver, wait_for, come}
 use Rattle.model.specs.Promise.{rising, below, good_box, good_house, NumbersRise}
-use Rattle.model.proofs.Places.{person_at_is, set_person_is, pick_both, every_append, every_those, every_set, every_getD_or, every_mono, pick_cases}
+use Rattle.model.proofs.Places.{person_at_is, set_person_is, pick_both, every_append, every_those, every_set, every_get_or_or, every_mono, pick_cases}
 use Rattle.model.proofs.Delivery.{deliver_keeps}
 use Rattle.model.proofs.Turns.{turn_keeps, taken_out}
 
@@ -138,7 +138,7 @@ good_person p = every good_box p.boxes
 
 pub good_boxes_at : (h : House) (a : ℕ) → good_house h ≡ true → every good_box (person_at h.people a).boxes ≡ true
 unfolding good_house
-good_boxes_at h a g = rw person_at_is (every_getD_or good_person h.people a no_person g refl)
+good_boxes_at h a g = rw person_at_is (every_get_or_or good_person h.people a no_person g refl)
 
 good_set_person : (h : House) (a : ℕ) (q : Person) → good_house h ≡ true → every good_box q.boxes ≡ true → good_house (with_people h (set_person h.people a q)) ≡ true
 unfolding good_house

@@ -180,16 +180,16 @@ every_set p (x ∷ xs) (suc i) y h k =
     let hs = and_parts (p x) (every p xs) h in
     and_from (p x) (every p (set xs i y)) hs.0 (every_set p xs i y hs.1 (λ l. k (omega arith)))
 
-pub every_getD : {A : Type 0} (p : A → Bool) (xs : List A) (i : ℕ) (y : A) → every p xs ≡ true → i < length xs → p (get_or xs i y) ≡ true
-every_getD p [] i y h l = absurd (omega arith)
-every_getD p (x ∷ xs) zero y h l = (and_parts (p x) (every p xs) h).0
-every_getD p (x ∷ xs) (suc i) y h l = every_getD p xs i y (and_parts (p x) (every p xs) h).1 (omega arith)
+pub every_get_or : {A : Type 0} (p : A → Bool) (xs : List A) (i : ℕ) (y : A) → every p xs ≡ true → i < length xs → p (get_or xs i y) ≡ true
+every_get_or p [] i y h l = absurd (omega arith)
+every_get_or p (x ∷ xs) zero y h l = (and_parts (p x) (every p xs) h).0
+every_get_or p (x ∷ xs) (suc i) y h l = every_get_or p xs i y (and_parts (p x) (every p xs) h).1 (omega arith)
 
 -- and at a place that may not be there, if it holds of what stands for it
-pub every_getD_or : {A : Type 0} (p : A → Bool) (xs : List A) (i : ℕ) (y : A) → every p xs ≡ true → p y ≡ true → p (get_or xs i y) ≡ true
-every_getD_or p [] i y h k = k
-every_getD_or p (x ∷ xs) zero y h k = (and_parts (p x) (every p xs) h).0
-every_getD_or p (x ∷ xs) (suc i) y h k = every_getD_or p xs i y (and_parts (p x) (every p xs) h).1 k
+pub every_get_or_or : {A : Type 0} (p : A → Bool) (xs : List A) (i : ℕ) (y : A) → every p xs ≡ true → p y ≡ true → p (get_or xs i y) ≡ true
+every_get_or_or p [] i y h k = k
+every_get_or_or p (x ∷ xs) zero y h k = (and_parts (p x) (every p xs) h).0
+every_get_or_or p (x ∷ xs) (suc i) y h k = every_get_or_or p xs i y (and_parts (p x) (every p xs) h).1 k
 
 pub every_mono : {A : Type 0} (p q : A → Bool) → ((x : A) → p x ≡ true → q x ≡ true) → (xs : List A) → every p xs ≡ true → every q xs ≡ true
 every_mono p q f [] h = refl

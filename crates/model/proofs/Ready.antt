@@ -4,7 +4,7 @@ use Rattle.std.proofs.lemmas.Bool.{and_parts}
 use Rattle.model.specs.Mail.{or, every, same, Rule, in_box}
 use Rattle.model.specs.House.{Command, House, Person, Box, Out, turn, person_at, set_person, no_person, with_people, has_box, known_boxes, put_here, change_boxes, change_box, deliver, come, target, known_target}
 use Rattle.model.specs.Always.{within, Ready}
-use Rattle.model.proofs.Places.{person_at_is, set_person_is, length_set_person, every_append, every_set, every_getD, every_mono}
+use Rattle.model.proofs.Places.{person_at_is, set_person_is, length_set_person, every_append, every_set, every_get_or, every_mono}
 use Rattle.model.proofs.Boxes.{has_box_set, has_box_append, has_box_without, has_box_put_all}
 use Rattle.model.proofs.Delivery.{deliver_keeps}
 use Rattle.model.proofs.Turns.{turn_keeps, taken_out}
@@ -16,10 +16,10 @@ abbrev pub rules_within : ℕ → List Rule → Bool
 rules_within n rs = every (λ r. every (λ t. within n (target t)) r.acts) rs
 
 pub has_in_at : (n : ℕ) (h : House) (a : ℕ) → Ready n h → a < length h.people → has_box (person_at h.people a).boxes in_box ≡ true
-has_in_at n h a r l = rw person_at_is (every_getD has_in h.people a no_person r.at_home l)
+has_in_at n h a r l = rw person_at_is (every_get_or has_in h.people a no_person r.at_home l)
 
 pub rules_at : (n : ℕ) (h : House) (a : ℕ) → Ready n h → a < length h.people → rules_within n (person_at h.people a).rules ≡ true
-rules_at n h a r l = rw person_at_is (every_getD (λ p. rules_within n p.rules) h.people a no_person r.on_to_houses l)
+rules_at n h a r l = rw person_at_is (every_get_or (λ p. rules_within n p.rules) h.people a no_person r.on_to_houses l)
 
 ready_set_person : (n : ℕ) (h : House) (a : ℕ) (q : Person) → Ready n h → (a < length h.people → has_in q ≡ true) → (a < length h.people → rules_within n q.rules ≡ true) →
     Ready n (with_people h (set_person h.people a q))

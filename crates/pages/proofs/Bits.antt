@@ -9,7 +9,7 @@ use Rattle.std.proofs.lemmas.Nat.{and_mask, pow_pos, pow-add, shr-shr, shr_high,
 use Rattle.model.specs.Device.{zeros}
 use Rattle.model.specs.Run.{all_small}
 use Rattle.pages.specs.Bits.{word_bit, word_flipped, bit, flipped, touched}
-use Rattle.pages.proofs.Words.{all_small_set, all_small_getD, getD_zeros}
+use Rattle.pages.proofs.Words.{all_small_set, all_small_get_or, get_or_zeros}
 
 -- one word
 
@@ -154,7 +154,7 @@ pub all_small_flipped : (ws : List ℕ) (t : ℕ) → all_small ws ≡ true → 
 unfolding flipped
 all_small_flipped ws t h =
     all_small_set ws (t / 64) (word_flipped (get_or ws (t / 64) 0) (t % 64))
-    (word_flipped_small (get_or ws (t / 64) 0) (t % 64) (omega arith) (all_small_getD ws (t / 64) h)) h
+    (word_flipped_small (get_or ws (t / 64) 0) (t % 64) (omega arith) (all_small_get_or ws (t / 64) h)) h
 
 -- past the end a flip does nothing, and bits are 0
 pub flipped_past : (ws : List ℕ) (t : ℕ) → length ws ≤ t / 64 → flipped ws t ≡ ws
@@ -175,7 +175,7 @@ bit_nil t = word_bit_zero (t % 64)
 
 pub bit_zeros : (n t : ℕ) → bit (zeros n) t ≡ 0
 unfolding bit
-bit_zeros n t = rw (getD_zeros n (t / 64)) (word_bit_zero (t % 64))
+bit_zeros n t = rw (get_or_zeros n (t / 64)) (word_bit_zero (t % 64))
 
 pub bit_flipped : (ws : List ℕ) (t : ℕ) → t / 64 < length ws → bit (flipped ws t) t ≡ 1 - bit ws t
 unfolding bit flipped

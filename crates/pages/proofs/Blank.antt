@@ -3,7 +3,7 @@ use Rattle.std.proofs.Common.{◌≡◌, ℕ, zero, suc, ◌*◌, ◌<◌, lengt
 use Rattle.model.specs.Device.{page_at, zeros, blank}
 use Rattle.pages.specs.Geometry.{selector_pages, table_place}
 use Rattle.pages.specs.Commit.{BlankKept}
-use Rattle.pages.proofs.Words.{getD_zeros, take_zeros, bytes_of_zeros}
+use Rattle.pages.proofs.Words.{get_or_zeros, take_zeros, bytes_of_zeros}
 use Rattle.pages.proofs.Geometry.{table_place_lt}
 
 pub length_blank : (n : ℕ) → length (blank n) ≡ n
@@ -22,6 +22,6 @@ unfolding BlankKept
 blank_kept P l = record {
   sized = length_blank P;
   header_kept = ap (λ p. take 256 p) (page_at_blank P 0 (omega arith)) ∙ (take_zeros 256 512 (omega arith) ∙ sym (bytes_of_zeros 32));
-  selectors_kept = λ v. absurd (v (getD_zeros 32 0));
+  selectors_kept = λ v. absurd (v (get_or_zeros 32 0));
   table_kept = λ t h. page_at_blank P (table_place P (zeros (64 * selector_pages P)) t) (table_place_lt P (zeros (64 * selector_pages P)) t l h) ∙ sym (bytes_of_zeros 64);
 }

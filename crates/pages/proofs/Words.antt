@@ -36,10 +36,10 @@ every_set p (x ∷ xs) zero y e h = and_from (p y) (every p xs) e (and_parts (p 
 every_set p (x ∷ xs) (suc i) y e h =
     and_from (p x) (every p (set xs i y)) (and_parts (p x) (every p xs) h).0 (every_set p xs i y e (and_parts (p x) (every p xs) h).1)
 
-pub every_getD : {A : Type 0} (p : A → Bool) (xs : List A) (i : ℕ) (d : A) → p d ≡ true → every p xs ≡ true → p (get_or xs i d) ≡ true
-every_getD p [] i d e h = e
-every_getD p (x ∷ xs) zero d e h = (and_parts (p x) (every p xs) h).0
-every_getD p (x ∷ xs) (suc i) d e h = every_getD p xs i d e (and_parts (p x) (every p xs) h).1
+pub every_get_or : {A : Type 0} (p : A → Bool) (xs : List A) (i : ℕ) (d : A) → p d ≡ true → every p xs ≡ true → p (get_or xs i d) ≡ true
+every_get_or p [] i d e h = e
+every_get_or p (x ∷ xs) zero d e h = (and_parts (p x) (every p xs) h).0
+every_get_or p (x ∷ xs) (suc i) d e h = every_get_or p xs i d e (and_parts (p x) (every p xs) h).1
 
 -- numbers below 2^64
 
@@ -59,9 +59,9 @@ pub all_small_set : (xs : List ℕ) (i y : ℕ) → y < 2 ^ 64 → all_small xs 
 unfolding all_small
 all_small_set xs i y l h = every_set (λ m. ltb m 18446744073709551616) xs i y (lt-ltb y 18446744073709551616 l) h
 
-pub all_small_getD : (xs : List ℕ) (i : ℕ) → all_small xs ≡ true → get_or xs i 0 < 2 ^ 64
+pub all_small_get_or : (xs : List ℕ) (i : ℕ) → all_small xs ≡ true → get_or xs i 0 < 2 ^ 64
 unfolding all_small
-all_small_getD xs i h = ltb-true (get_or xs i 0) 18446744073709551616 (every_getD (λ m. ltb m 18446744073709551616) xs i 0 refl h)
+all_small_get_or xs i h = ltb-true (get_or xs i 0) 18446744073709551616 (every_get_or (λ m. ltb m 18446744073709551616) xs i 0 refl h)
 
 pub all_small_cons : (x : ℕ) (xs : List ℕ) → x < 2 ^ 64 → all_small xs ≡ true → all_small (x ∷ xs) ≡ true
 unfolding all_small
@@ -303,11 +303,11 @@ unfolding zeros
 length_zeros zero = refl
 length_zeros (suc n) = ap suc (length_zeros n)
 
-pub getD_zeros : (n i : ℕ) → get_or (zeros n) i 0 ≡ 0
+pub get_or_zeros : (n i : ℕ) → get_or (zeros n) i 0 ≡ 0
 unfolding zeros
-getD_zeros zero i = refl
-getD_zeros (suc n) zero = refl
-getD_zeros (suc n) (suc i) = getD_zeros n i
+get_or_zeros zero i = refl
+get_or_zeros (suc n) zero = refl
+get_or_zeros (suc n) (suc i) = get_or_zeros n i
 
 pub zeros_append : (m n : ℕ) → zeros m ++ zeros n ≡ zeros (m + n)
 unfolding zeros
@@ -365,8 +365,8 @@ pub part_all : (xs : List ℕ) (n : ℕ) → length xs ≡ n → part xs 0 n ≡
 part_all xs n e = take_all n xs (omega arith)
 
 -- what the checker shows after a write to a lent part
-pub patched_is_putMid : (xs : List ℕ) (a e : ℕ) (ws : List ℕ) → length ws ≡ e - a → put_mid a (e - a) xs ws ≡ patched xs a ws
-patched_is_putMid xs a e ws h = rw (← h)
+pub patched_is_put_mid : (xs : List ℕ) (a e : ℕ) (ws : List ℕ) → length ws ≡ e - a → put_mid a (e - a) xs ws ≡ patched xs a ws
+patched_is_put_mid xs a e ws h = rw (← h)
 
 pub length_patched : (xs : List ℕ) (at : ℕ) (ws : List ℕ) → at + length ws ≤ length xs → length (patched xs at ws) ≡ length xs
 length_patched xs at ws h = simp (length-append, length-take, length-drop) (omega arith)
@@ -400,16 +400,16 @@ pub part_patched_after : (xs : List ℕ) (at : ℕ) (ws : List ℕ) (b n : ℕ) 
 part_patched_after xs at ws b n h k = ap (take n) (drop_patched_after xs at ws b h k)
 
 -- one element
-pub getD_patched : (xs : List ℕ) (at : ℕ) (ws : List ℕ) (i d : ℕ) → at ≤ length xs → i < length ws → get_or (patched xs at ws) (at + i) d ≡ get_or ws i d
-getD_patched xs at ws i d h k =
+pub get_or_patched : (xs : List ℕ) (at : ℕ) (ws : List ℕ) (i d : ℕ) → at ≤ length xs → i < length ws → get_or (patched xs at ws) (at + i) d ≡ get_or ws i d
+get_or_patched xs at ws i d h k =
     sym (get_or-drop at (patched xs at ws) i d) ∙ ap (λ l. get_or l i d) (drop_patched xs at ws h) ∙ get_or_append_left ws (drop (length ws) (drop at xs)) d i k
 
-pub getD_patched_before : (xs : List ℕ) (at : ℕ) (ws : List ℕ) (i d : ℕ) → at ≤ length xs → i < at → get_or (patched xs at ws) i d ≡ get_or xs i d
-getD_patched_before xs at ws i d h k =
+pub get_or_patched_before : (xs : List ℕ) (at : ℕ) (ws : List ℕ) (i d : ℕ) → at ≤ length xs → i < at → get_or (patched xs at ws) i d ≡ get_or xs i d
+get_or_patched_before xs at ws i d h k =
     sym (get_or-take at (patched xs at ws) i d k) ∙ ap (λ l. get_or l i d) (take_patched_before xs at ws at h (omega arith)) ∙ get_or-take at xs i d k
 
-pub getD_patched_after : (xs : List ℕ) (at : ℕ) (ws : List ℕ) (i d : ℕ) → at ≤ length xs → at + length ws ≤ i → get_or (patched xs at ws) i d ≡ get_or xs i d
-getD_patched_after xs at ws i d h k =
+pub get_or_patched_after : (xs : List ℕ) (at : ℕ) (ws : List ℕ) (i d : ℕ) → at ≤ length xs → at + length ws ≤ i → get_or (patched xs at ws) i d ≡ get_or xs i d
+get_or_patched_after xs at ws i d h k =
     let e : i ≡ i + 0 = omega arith in
     rw e (sym (get_or-drop i (patched xs at ws) 0 d) ∙ ap (λ l. get_or l 0 d) (drop_patched_after xs at ws i h k) ∙ get_or-drop i xs 0 d)
 

@@ -14,7 +14,7 @@ mod refusal;
 
 ghost use Rattle.std.specs.Prelude.{◌≡◌, ◌≤◌, length};
 ghost use Rattle.model.specs.Promise.{Whole};
-ghost use Rattle.model.specs.Run.{said as said-event, page as page-event, next as next-event};
+ghost use Rattle.model.specs.Run.{said as said_event, page as page_event, next as next_event};
 ghost use Rattle.commands.specs.Reader.{command_of};
 ghost use Rattle.house.specs.Entry.{StepSays, step_fits};
 ghost use Rattle.house.specs.Knows.{known};
@@ -78,7 +78,7 @@ fn obey(
 // A command is heard at rest only.
 fn told_command(memory: &mut [u64], text: &[u8], out: &mut [u8]) -> Told
     requires { 131072 ≤ length out.old }
-    ensures { Does (stepped memory.old (said-event text.now)) result out.old memory.new out.new }
+    ensures { Does (stepped memory.old (said_event text.now)) result out.old memory.new out.new }
 {
     let Some(geometry) = sensible(memory) else {
         return out_of_turn();
@@ -94,7 +94,7 @@ fn told_command(memory: &mut [u64], text: &[u8], out: &mut [u8]) -> Told
 
 // A page that was asked for, in a phase that asked for one.
 fn told_page(memory: &mut [u64], page: &[u8]) -> Told
-    ensures { Quietly (stepped memory.old (page-event page.now)) result memory.new }
+    ensures { Quietly (stepped memory.old (page_event page.now)) result memory.new }
 {
     let Some(geometry) = sensible(memory) else {
         return out_of_turn();
@@ -113,7 +113,7 @@ fn told_page(memory: &mut [u64], page: &[u8]) -> Told
 // The last act is done.
 fn told_next(memory: &mut [u64], out: &mut [u8]) -> Told
     requires { 131072 ≤ length out.old }
-    ensures { Does (stepped memory.old next-event) result out.old memory.new out.new }
+    ensures { Does (stepped memory.old next_event) result out.old memory.new out.new }
 {
     let Some(geometry) = sensible(memory) else {
         return out_of_turn();

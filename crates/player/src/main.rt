@@ -115,7 +115,7 @@ fn start(rt: &HostRuntime) -> anyhow::Result<()> {
     }
 }
 
-// What went wrong was told where it was met; what is left to say is the status.
+// A complaint was printed where it came up, so only the status is left; reading, writing or memory that failed here shows in the status alone.
 fn main(rt: HostRuntime) -> ExitCode {
     match start(&rt) {
         Ok(()) => ExitCode::SUCCESS,

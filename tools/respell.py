@@ -96,7 +96,7 @@ def main():
             table[name] = new
         return new
 
-    def turn(text, elsewhere, in_source):
+    def turn(text, elsewhere, in_source, aliases=frozenset()):
         def one(m):
             t, at = m[0], m.start()
             if t.startswith("--") or t[0] in "\"«" or t in elsewhere:
@@ -104,7 +104,7 @@ def main():
             after_dot = at > 0 and text[at - 1] == "."
             if after_dot and (t not in declared or re.search(r"\b(goal|given|need)\.$", text[:at])):
                 return t
-            if in_source and t not in declared:
+            if in_source and t not in declared and t not in aliases:
                 return t
             return turned(t)
 
@@ -119,13 +119,15 @@ def main():
 
     for path in sorted(glob.glob("crates/*/src/**/*.rt", recursive=True)):
         text, done, in_clause = read(path), [], False
-        elsewhere = set()
+        elsewhere, aliases = set(), set()
         for line in text.split("\n"):
             elsewhere |= from_elsewhere(line)
+            if line.startswith("ghost use "):
+                aliases |= set(re.findall(r" as (%s)" % WORD, line))
         for line in text.split("\n"):
             starts = re.match(r"\s*(pub\(?.*\)? )?(ghost|requires|ensures)\b", line)
             if starts or in_clause:
-                done.append(turn(line, elsewhere, True))
+                done.append(turn(line, elsewhere, True, aliases))
                 depth = sum(line.count(it) for it in "{(") - sum(line.count(it) for it in "})")
                 open_ = depth if starts else open_ + depth
                 in_clause = open_ > 0

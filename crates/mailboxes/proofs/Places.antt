@@ -1,4 +1,4 @@
--- Laws of the places that a directory counts through: count-up, first, and each, those and any over them.
+-- Laws of the places that a directory counts through: count_up, first, and each, those and any over them.
 use Rattle.std.proofs.Common.{◌≡◌, ℕ, zero, suc, ◌+◌, ◌-◌, ◌<◌, ◌≤◌, Bool, true, false, ◌&&◌, List, [], ◌∷◌, ◌++◌, length, is_some, Some, None, Option, refl, ap, ◌∙◌, inl, inr, add-zero, add-one, arith, length-append}
 use Rattle.std.proofs.lemmas.Bool.{cases_Bool, cases_eq}
 use Rattle.model.specs.Mail.{pick, or, any, each, those}

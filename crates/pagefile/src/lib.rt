@@ -182,4 +182,24 @@ mod tests {
         fs::remove_file(&rt, "back.test")?;
         Ok(())
     }
+    // The header lies on page 0: what was written there is there when the file is opened again, and nothing came onto the page beside it.
+    #[test]
+    fn the_first_page_is_there_again(rt: HostRuntime) -> Result<(), Fail> {
+        let Ok(mut file) = PageFile::create(&rt, "again.test", 256) else {
+            return Err(Fail::new("no file"));
+        };
+        file.write_page(0, &[9; PAGE_LEN])?;
+        file.sync()?;
+        drop(file);
+        let Ok(mut file) = PageFile::open(&rt, "again.test") else {
+            return Err(Fail::new("the file is refused"));
+        };
+        let mut page = [1; PAGE_LEN];
+        file.read_page(0, &mut page)?;
+        assert!(rt; page[0] == 9 && page[511] == 9);
+        file.read_page(1, &mut page)?;
+        assert!(rt; page[0] == 0 && page[511] == 0);
+        fs::remove_file(&rt, "again.test")?;
+        Ok(())
+    }
 }

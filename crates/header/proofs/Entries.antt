@@ -1,19 +1,29 @@
 -- When a field is not looked for, and what is answered then and otherwise.
 use Rattle.std.proofs.Common.{◌≡◌, ℕ, ◌<◌, ◌≤◌, Bool, true, false, ◌&&◌, ltb, leb, ◌⊎◌, List, [], ◌∷◌, ◌++◌, length, drop, refl, ap, inl, inr, arith, le-ltb, lt-ltb, le-leb, leb-true}
+use Rattle.std.proofs.Common as std
 use borrow.Author.Tests.{lt-leb}
 use Rattle.std.proofs.lemmas.Bool.{cases_Bool, and_right}
-use Rattle.model.specs.Mail.{pick, small, smalls, field}
+use Rattle.model.specs.Mail.{pick, field}
 use Rattle.header.specs.declared.Reply.TheVariants.{Value, None, Refused}
 use Rattle.header.specs.declared.Refusal.{Refusal}
 use Rattle.header.specs.declared.Refusal.TheVariants.{LetterTooLong, NameLength, RowTooShort}
-use Rattle.header.specs.Entry.{reply, FieldSays, refusal}
+use Rattle.header.specs.Entry.{reply, FieldSays, refusal, first_length, FirstValueWritten, NotLookedFor}
 use Rattle.header.specs.Refusals.{number}
-use Rattle.header.proofs.Small.{length_each}
 
 never : (a b : Bool) → ◌≡◌ {A = ℕ} (pick a (pick b 3 2) 1) 0 → ⊥
 never true true e = omega arith
 never true false e = omega arith
 never false b e = omega arith
+
+reply_none : (vs : List (List ℕ)) → std.None ≡ first_length vs → None ≡ reply vs
+unfolding reply
+reply_none [] e = refl
+reply_none (v ∷ vs) e = absurd cc
+
+reply_value : (n : ℕ) (vs : List (List ℕ)) → std.Some n ≡ first_length vs → Value n ≡ reply vs
+unfolding reply
+reply_value n [] e = absurd cc
+reply_value n (v ∷ vs) e = ap Value cc
 
 module _ (letter name out : List ℕ) where
   pub refusal_letter : 65535 < length letter → refusal letter name out ≡ 1
@@ -44,17 +54,16 @@ module _ (letter name out : List ℕ) where
         | inr t ↦ absurd (never (ltb (length letter) 65536) (leb 1 (length name) && leb (length name) 64) (rw t at e))
       ]
 
-  pub says_refused : (e : Refusal) (n : ℕ) → refusal letter name out ≡ number e → n ≡ number e → FieldSays letter name out (refusal letter name out) (Refused n) out
+  pub says_refused : (why : Refusal) (n : ℕ) (out₁ : List ℕ) → NotLookedFor letter name out why out₁ → n ≡ number why → FieldSays letter name out (refusal letter name out) (Refused n) out₁
   unfolding FieldSays
-  says_refused LetterTooLong n q k = rw q (ap Refused k, refl)
-  says_refused NameLength n q k = rw q (ap Refused k, refl)
-  says_refused RowTooShort n q k = rw q (ap Refused k, refl)
+  says_refused LetterTooLong n out₁ w k = rw w.why_is (ap Refused k, w.row_is)
+  says_refused NameLength n out₁ w k = rw w.why_is (ap Refused k, w.row_is)
+  says_refused RowTooShort n out₁ w k = rw w.why_is (ap Refused k, w.row_is)
 
-  pub says_none : refusal letter name out ≡ 0 → field name letter ≡ [] → FieldSays letter name out (refusal letter name out) None out
-  unfolding FieldSays reply
-  says_none q e = rw (q, e) (refl, refl)
+  pub says_none : (out₁ : List ℕ) → FirstValueWritten letter name out std.None out₁ → FieldSays letter name out (refusal letter name out) None out₁
+  unfolding FieldSays
+  says_none out₁ w = rw w.admitted (reply_none (field name letter) w.length_is, w.row_is)
 
-  pub says_value : (value out₁ : List ℕ) (more : List (List ℕ)) → refusal letter name out ≡ 0 → field name letter ≡ smalls value ∷ more → out₁ ≡ smalls value ++ drop (length value) out →
-      FieldSays letter name out (refusal letter name out) (Value (length value)) out₁
-  unfolding FieldSays reply
-  says_value value out₁ more q e o = rw (q, e, length_each small value) (refl, o)
+  pub says_value : (n : ℕ) (out₁ : List ℕ) → FirstValueWritten letter name out (std.Some n) out₁ → FieldSays letter name out (refusal letter name out) (Value n) out₁
+  unfolding FieldSays
+  says_value n out₁ w = rw w.admitted (reply_value n (field name letter) w.length_is, w.row_is)

@@ -1,3 +1,4 @@
 pub mod Small
+pub mod Parts
 pub mod Lines
 pub mod Entries

@@ -3,6 +3,9 @@ use Rattle.std.specs.Prelude.{◌≡◌, ℕ, zero, suc, ◌&&◌, List, [], ◌
 use Rattle.model.specs.Mail.{pick, field}
 use Rattle.header.specs.declared.Reply.{Reply}
 use Rattle.header.specs.declared.Reply.TheVariants.{Value, None, Refused}
+use Rattle.header.specs.declared.Refusal.{Refusal}
+use Rattle.header.specs.Refusals.{number}
+use Rattle.std.specs.Prelude as std
 
 abbrev pub first_or_none : List (List ℕ) → List ℕ
 first_or_none [] = []
@@ -22,3 +25,18 @@ FieldSays letter name out (suc k) r out₁ = (r ≡ Refused (suc k)) × (out₁ 
 unfoldable pub refusal : (letter name out : List ℕ) → ℕ
 refusal letter name out =
     pick (nat_lt (length letter) 65536) (pick (nat_le 1 (length name) && nat_le (length name) 64) (pick (nat_le (length letter) (length out)) 0 3) 2) 1
+
+abbrev pub first_length : List (List ℕ) → std.Option ℕ
+first_length [] = std.None
+first_length (v ∷ vs) = std.Some (length v)
+
+-- the first value of a field stands at the front of a row, and all else in it is as it was; how long the value is, if there is one
+pub record FirstValueWritten (letter name out : List ℕ) (told : std.Option ℕ) (out₁ : List ℕ) : Type 0 where
+  pub admitted : refusal letter name out ≡ 0
+  pub length_is : told ≡ first_length (field name letter)
+  pub row_is : out₁ ≡ first_or_none (field name letter) ++ drop (length (first_or_none (field name letter))) out
+
+-- the first rule that the letter, the name and the row break is why, and the row is as it was
+pub record NotLookedFor (letter name out : List ℕ) (why : Refusal) (out₁ : List ℕ) : Type 0 where
+  pub why_is : refusal letter name out ≡ number why
+  pub row_is : out₁ ≡ out

@@ -1,13 +1,18 @@
--- What the parts of a walk over a letter's head hand on: a line and what follows it, a value and what follows its line.
-use Rattle.std.specs.Prelude.{◌≡◌, ℕ, ◌+◌, ◌<◌, ◌≤◌, Bool, true, List, [], ◌∷◌, ◌++◌, length, drop}
-use Rattle.model.specs.Mail.{smalls, field, line_of, after_line, starts_with, no_blanks}
+-- The lines of a letter's head, and the value in a line of a field.
+use Rattle.std.specs.Prelude.{◌≡◌, ℕ, ◌+◌, ◌<◌, Bool, true, List, [], ◌∷◌, ◌++◌, length, drop}
+use Rattle.model.specs.Mail.{smalls, head_lines, starts_with, no_blanks, field}
+use Rattle.header.specs.declared.head.Lines.{Lines}
+use Rattle.header.specs.declared.head.Values.{Values}
 
--- a line that is not empty, and what follows it
-pub record FirstLine (bytes line rest : List ℕ) : Type 0 where
-  pub line_is : line ≡ line_of bytes
-  pub rest_is : rest ≡ after_line bytes
-  pub shorter : length line + length rest ≤ length bytes
-  pub some : 0 < length line
+abbrev pub lines_of : List ℕ → List (List ℕ)
+lines_of bs = head_lines (length bs) bs
+
+-- what each walk has left
+abbrev pub lines_left : Lines → List (List ℕ)
+lines_left walk = lines_of walk.left.now
+
+abbrev pub values_left : Values → List (List ℕ)
+values_left walk = field walk.name.now walk.lines.left.now
 
 -- whether a line is one of the field
 abbrev pub of_field : (name line : List ℕ) → Bool
@@ -18,8 +23,3 @@ pub record LineValue (name line value : List ℕ) : Type 0 where
   pub named : of_field name line ≡ true
   pub value_is : value ≡ no_blanks (drop (1 + length name) line)
   pub shorter : length value < length line
-
--- the first value of the field, with its letters as they stand, and what follows its line
-pub record FirstValue (name bytes value rest : List ℕ) : Type 0 where
-  pub values : field name bytes ≡ smalls value ∷ field name rest
-  pub shorter : length value + length rest < length bytes

@@ -1,58 +1,91 @@
 // The walk over a letter's head: its lines up to the first empty one, and the values of a field among them. Lines and values are parts of the
 // lent letter.
-ghost use Rattle.std.specs.Prelude.{◌≡◌, ◌≤◌, false, [], length, MatchOption};
-ghost use Rattle.model.specs.Mail.{line_of, field};
-ghost use Rattle.header.specs.Head.{FirstLine, of_field, LineValue, FirstValue};
+ghost use Rattle.std.specs.Prelude.{◌≡◌, false, MatchOption};
+ghost use Rattle.std.specs.Iterator.{YieldsFirstRef, YieldsFirstBy, item_count};
+ghost use Rattle.model.specs.Mail.{line_of, after_line, smalls, field};
+ghost use Rattle.header.specs.Head.{lines_left, values_left, of_field, LineValue};
 
-use crate::text::{begins_with, without_blanks};
+use crate::text::{equals, without_blanks};
 
-// How many bytes stand before the first line end; all, if there is none.
-fn line_length(bytes: &[u8]) -> usize
-    ensures value { result ≡ length (line_of bytes.now) }
-    ensures within { result ≤ length bytes.now }
+// The first line, and what follows it.
+fn first_line(bytes: &[u8]) -> (&[u8], &[u8])
+    ensures line { result.0.now ≡ line_of bytes.now }
+    ensures rest { result.1.now ≡ after_line bytes.now }
 {
-    for (i, byte) in bytes.iter().enumerate() {
-        if *byte == b'\n' {
-            return i;
-        }
+    match bytes.iter().position(|byte| *byte == b'\n') {
+        Some(end) => (&bytes[..end], &bytes[end + 1..]),
+        None => (bytes, &[]),
     }
-    bytes.len()
 }
 
-// The first line and what follows it; none if the line is empty, since the head ends there.
-fn first_line(bytes: &[u8]) -> Option<(&[u8], &[u8])>
-    ensures { MatchOption result (line_of bytes.now ≡ []) (λ p. FirstLine bytes.now p.0.now p.1.now) }
-{
-    let end = line_length(bytes);
-    if end == 0 {
-        return None;
+// The lines of a head, from those that are left on. An iterator of its own: with a closure in it its type could not be named in `Values`.
+#[derive(Drop)]
+struct Lines<'a> {
+    left: &'a [u8],
+}
+
+impl<'a> Iterator for Lines<'a> {
+    type Item = &'a [u8];
+
+    ghost next_gives = { YieldsFirstRef lines_left };
+
+    ghost remaining = { item_count lines_left };
+
+    // None if the line is empty, since the head ends there.
+    fn next(&mut self) -> Option<&'a [u8]> {
+        let (line, rest) = first_line(self.left);
+        if line.is_empty() {
+            return None;
+        }
+        self.left = rest;
+        Some(line)
     }
-    let next = if end < bytes.len() { end + 1 } else { end };
-    Some((&bytes[0..end], &bytes[next..]))
 }
 
 // The value in a line "name: value", without blanks before it.
 fn value_in<'a>(line: &'a [u8], name: &[u8]) -> Option<&'a [u8]>
     ensures { MatchOption result (of_field name.now line.now ≡ false) (λ v. LineValue name.now line.now v.now) }
 {
-    let colon = name.len();
-    if begins_with(line, name) && colon < line.len() && line[colon] == b':' {
-        Some(without_blanks(&line[colon + 1..]))
-    } else {
-        None
+    let (front, rest) = line.split_at_checked(name.len())?;
+    if !equals(front, name) {
+        return None;
+    }
+    Some(without_blanks(rest.strip_prefix(b":")?))
+}
+
+// The values of a field, with their letters as they stand.
+#[derive(Drop)]
+pub struct Values<'a> {
+    lines: Lines<'a>,
+    name: &'a [u8],
+}
+
+impl<'a> Values<'a> {
+    // The values of the field of this name, from the first line on.
+    pub fn new(letter: &'a [u8], name: &'a [u8]) -> Values<'a>
+        ensures value { values_left result ≡ field name.now letter.now }
+    {
+        Values {
+            lines: Lines { left: letter },
+            name,
+        }
     }
 }
 
-// The first value of a field, and what follows its line.
-pub fn first_value<'a>(bytes: &'a [u8], name: &[u8]) -> Option<(&'a [u8], &'a [u8])>
-    ensures { MatchOption result (field name.now bytes.now ≡ []) (λ p. FirstValue name.now bytes.now p.0.now p.1.now) }
-{
-    let mut left = bytes;
-    while let Some((line, rest)) = first_line(left) {
-        if let Some(value) = value_in(line, name) {
-            return Some((value, rest));
+impl<'a> Iterator for Values<'a> {
+    type Item = &'a [u8];
+
+    ghost next_gives = { YieldsFirstBy (λ v. smalls v.now) values_left };
+
+    ghost remaining = { item_count values_left };
+
+    // A loop, since the contract of `find_map` does not say that no line is left after its None.
+    fn next(&mut self) -> Option<&'a [u8]> {
+        while let Some(line) = self.lines.next() {
+            if let Some(value) = value_in(line, self.name) {
+                return Some(value);
+            }
         }
-        left = rest;
+        None
     }
-    None
 }

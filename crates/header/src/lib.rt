@@ -2,16 +2,19 @@
 // values of the plain definition for every letter, name and text; it keeps nothing and copies only the value that is asked for.
 #![tactic(auto)]
 
-ghost use Rattle.std.specs.Prelude.{◌≡◌, MatchResult};
+ghost use Rattle.std.specs.Prelude.{◌≡◌, Some, MatchResult};
 ghost use Rattle.model.specs.Mail.{any, holds, same, smalls, field};
-ghost use Rattle.header.specs.Entry.{FieldSays, refusal};
-ghost use Rattle.header.specs.Refusals.{number};
+ghost use Rattle.header.specs.Entry.{FieldSays, FirstValueWritten, NotLookedFor, refusal};
+ghost use Rattle.header.specs.Refusals.{number, words};
 
 mod head;
 mod text;
 
-use head::first_value;
+use head::Values;
+use std::error::Error;
+use std::fmt;
 
+// This enum and the signature of `field_of` are agreed on with the caller as they stand; `first_value_into` says the same as a Result.
 #[derive(Clone, Copy, PartialEq, Eq, Debug)]
 pub enum Reply {
     // The first value, so long.
@@ -23,8 +26,8 @@ pub enum Reply {
 }
 
 // Why a field is not looked for; the number is what the caller is told.
-#[derive(Clone, Copy)]
-enum Refusal {
+#[derive(Clone, Copy, PartialEq, Eq, Debug)]
+pub enum Refusal {
     LetterTooLong = 1,
     // It has no bytes, or too many.
     NameLength = 2,
@@ -32,16 +35,32 @@ enum Refusal {
     RowTooShort = 3,
 }
 
-impl Refusal {
-    fn number(self) -> u64
-        ensures { result ≡ number self }
-    {
-        self as u64
+impl From<Refusal> for u64 {
+    ghost from_gives = { λ refusal n. n ≡ number refusal };
+
+    fn from(refusal: Refusal) -> u64 {
+        refusal as u64
     }
 }
 
+// By hand, since of a text that is derived nothing is promised.
+impl fmt::Display for Refusal {
+    ghost output = { λ refusal. Some (words refusal) };
+
+    fn fmt<W: fmt::Write>(&self, f: &mut fmt::Formatter<W>) -> fmt::Result {
+        f.write_str(match self {
+            Refusal::LetterTooLong => "the letter is too long",
+            Refusal::NameLength => "the field's name is empty or too long",
+            Refusal::RowTooShort => "the row is shorter than the letter",
+        })
+    }
+}
+
+impl Error for Refusal {}
+
 // A longer letter is refused; none that is handed in has more than 65,000 bytes.
 const MAX_LETTER: usize = 65_535;
+
 // As many bytes as any name in a house may have.
 const MAX_NAME: usize = 64;
 
@@ -61,52 +80,54 @@ fn admitted(letter: &[u8], name: &[u8], row: &[u8]) -> Result<(), Refusal>
     Ok(())
 }
 
-// The first value of a field, written to the front of the lent row in small letters and without blanks before it.
+// Writes the first value of a field to the front of the row, in small letters and without blanks before it; how long it is, if there is one.
+pub fn first_value_into(
+    letter: &[u8],
+    name: &[u8],
+    out: &mut [u8],
+) -> Result<Option<usize>, Refusal>
+    ensures { MatchResult result
+        (λ n. FirstValueWritten letter.now name.now out.old n out.new)
+        (λ e. NotLookedFor letter.now name.now out.old e out.new) }
+{
+    admitted(letter, name, out)?;
+    let Some(value) = Values::new(letter, name).next() else {
+        return Ok(None);
+    };
+    text::copy_lowercase(value, out);
+    Ok(Some(value.len()))
+}
+
+// The first value of a field, as `first_value_into` writes it, in the words that are agreed on.
 pub fn field_of(letter: &[u8], name: &[u8], out: &mut [u8]) -> Reply
     ensures { FieldSays letter.now name.now out.old (refusal letter.now name.now out.old) result out.new }
 {
-    if let Err(refusal) = admitted(letter, name, out) {
-        return Reply::Refused(refusal.number());
+    match first_value_into(letter, name, out) {
+        Ok(Some(length)) => Reply::Value(length as u64),
+        Ok(None) => Reply::None,
+        Err(refusal) => Reply::Refused(refusal.into()),
     }
-    let Some((value, _)) = first_value(letter, name) else {
-        return Reply::None;
-    };
-    text::copy_lowercase(value, out);
-    Reply::Value(value.len() as u64)
 }
 
 // Whether some value of the field holds `text`.
 pub fn field_holds(letter: &[u8], name: &[u8], text: &[u8]) -> bool
     ensures { result ≡ any (holds (smalls text.now)) (field name.now letter.now) }
 {
-    let mut left = letter;
-    while let Some((value, rest)) = first_value(left, name) {
-        if text::contains(value, text) {
-            return true;
-        }
-        left = rest;
-    }
-    false
+    Values::new(letter, name).any(|value| text::contains(value, text))
 }
 
 // Whether some value of the field is `text`.
 pub fn field_equals(letter: &[u8], name: &[u8], text: &[u8]) -> bool
     ensures { result ≡ any (same (smalls text.now)) (field name.now letter.now) }
 {
-    let mut left = letter;
-    while let Some((value, rest)) = first_value(left, name) {
-        if text::equals(value, text) {
-            return true;
-        }
-        left = rest;
-    }
-    false
+    Values::new(letter, name).any(|value| text::equals(value, text))
 }
 
 #[cfg(test)]
 mod tests {
     use super::*;
     use std::process::Abort;
+    use std::test::Fail;
 
     const ROW: usize = 64;
 
@@ -121,6 +142,7 @@ mod tests {
         assert!(rt; &row[0..value.len()] == value && row[value.len()] == b'#');
     }
 
+    // The reply is this one, and nothing is written.
     fn not_told(rt: &impl Abort, letter: &[u8], name: &[u8], reply: Reply) {
         let mut row = [b'#'; ROW];
         assert_eq!(rt; field_of(letter, name, &mut row), reply);
@@ -158,6 +180,36 @@ mod tests {
         letter[1] = b':';
         assert_eq!(rt; field_of(&letter, b"a", &mut row), Reply::Value(64_998));
         assert!(rt; row[0] == b'a' && row[64_997] == b'a' && row[64_998] == b'#');
+    }
+
+    #[test]
+    fn as_results(rt: HostRuntime) {
+        let letter = b"To: Anna\nRe:\n";
+        let mut row = [b'#'; ROW];
+        assert_eq!(rt; first_value_into(letter, b"from", &mut row), Ok(None));
+        assert_eq!(rt;
+            first_value_into(letter, b"", &mut row),
+            Err(Refusal::NameLength)
+        );
+        assert_eq!(rt;
+            first_value_into(letter, b"to", &mut row[..4]),
+            Err(Refusal::RowTooShort)
+        );
+        assert!(rt; row == [b'#'; ROW]);
+        assert_eq!(rt; first_value_into(letter, b"to", &mut row), Ok(Some(4)));
+        assert!(rt; row.starts_with(b"anna#"));
+        assert_eq!(rt; first_value_into(letter, b"re", &mut row), Ok(Some(0)));
+        assert!(rt; row.starts_with(b"anna#"));
+    }
+
+    #[test]
+    fn refusals(rt: HostRuntime) -> Result<(), Fail> {
+        assert_eq!(rt; u64::from(Refusal::LetterTooLong), 1);
+        assert_eq!(rt; u64::from(Refusal::NameLength), 2);
+        assert_eq!(rt; u64::from(Refusal::RowTooShort), 3);
+        let text = format!(in rt.alloc(); "{}", Refusal::LetterTooLong)?;
+        assert_eq!(rt; text.as_str(), "the letter is too long");
+        Ok(())
     }
 
     // Whether some value of the field holds the text, and whether one is it.

@@ -1,47 +1,62 @@
--- Digits of one byte more.
-use Rattle.std.proofs.Common.{◌≡◌, ℕ, ◌-◌, ◌/◌, ◌%◌, ◌≤◌, List, [], ◌∷◌, ◌++◌, length, get_or, take, drop, Some, None, Option, sym, refl, ap, ◌∙◌, append_assoc, arith}
-use Rattle.std.proofs.lemmas.List.{take_rest, nil_from_length, append-nil}
-use Rattle.hexadecimal.specs.Hex.{digit, before, with_byte, pair_value, hexed, unhexed}
+-- What the library's crate of hexadecimal digits reads and writes is what the definitions say.
+use Rattle.std.proofs.Common.{◌≡◌, ℕ, zero, suc, ◌+◌, ◌*◌, ◌%◌, ◌/◌, ◌<◌, ◌&&◌, Bool, true, eqb, List, [], ◌∷◌, length, get_or, Some, None, Ok, Err, Option, Result, refl, sym, ap, ◌∙◌, inl, inr, arith, eqb-true}
+use Rattle.std.specs.Result.{result_ok}
+use Rattle.std.specs.Option.{option_map, option_and_then}
+use Rattle.std.proofs.lemmas.Bool.{cases_Bool}
+use Rattle.std.proofs.lemmas.Bool.Decides.{nat_tests, Decides-below_and, Decides-eqb}
+use Rattle.hex.specs.Hex.{hex_digit_value, digit_or_error, decode_pairs, decode_of, lower_digits, encode_with, encode_lower, IsBytes, ◌>>=◌}
+use Rattle.hex.specs.declared.error.FromHexError.{FromHexError}
+use Rattle.hexadecimal.specs.Hex.{digit_value, pair_value, digit, with_byte, hexed, unhexed}
 
-pub before_nil : (o : Option (List ℕ)) → before [] o ≡ o
-before_nil None = refl
-before_nil (Some cs) = refl
+same_digit : (c : ℕ) → hex_digit_value c ≡ digit_value c
+same_digit c = grind (arith, nat_tests)
 
-pub before_push : (bs : List ℕ) (b : ℕ) (o : Option (List ℕ)) → before bs (before (b ∷ []) o) ≡ before (bs ++ b ∷ []) o
-before_push bs b None = refl
-before_push bs b (Some cs) = ap Some (sym (append_assoc bs (b ∷ []) cs))
+-- a pair of digits before what is decoded after it
+same_byte : (c d i : ℕ) (a b : Option ℕ) (r : Result (List ℕ) FromHexError) →
+    result_ok ((digit_or_error c i a >>= (λ h. digit_or_error d (i + 1) b >>= (λ l. Ok (h * 16 + l)))) >>= (λ byte. r >>= (λ bytes. Ok (byte ∷ bytes))))
+    ≡ with_byte (option_and_then (λ high. option_map (λ low. 16 * high + low) b) a) (result_ok r)
+same_byte c d i None b r = refl
+same_byte c d i (Some h) None r = refl
+same_byte c d i (Some h) (Some l) (Err e) = refl
+same_byte c d i (Some h) (Some l) (Ok bytes) = let e : h * 16 + l ≡ 16 * h + l = omega arith in ap (λ x. Some (x ∷ bytes)) e
 
-pub hexed_push : (bs : List ℕ) (b : ℕ) → hexed (bs ++ b ∷ []) ≡ (hexed bs ++ digit (b / 16) ∷ []) ++ digit (b % 16) ∷ []
-unfolding hexed
-hexed_push [] b = refl
-hexed_push (x ∷ bs) b = ap (λ t. digit (x / 16) ∷ digit (x % 16) ∷ t) (hexed_push bs b)
+unhexed_pairs : (cs : List ℕ) (i : ℕ) → result_ok (decode_pairs i cs) ≡ unhexed cs
+unfolding decode_pairs unhexed
+unhexed_pairs [] i = refl
+unhexed_pairs (c ∷ []) i = refl
+unhexed_pairs (c ∷ d ∷ cs) i =
+    same_byte c d i (hex_digit_value c) (hex_digit_value d) (decode_pairs (i + 2) cs)
+    ∙ rw (same_digit c, same_digit d, unhexed_pairs cs (i + 2))
 
-pub unhexed_pair : (cs : List ℕ) → 2 ≤ length cs → unhexed cs ≡ with_byte (pair_value (get_or cs 0 0) (get_or cs 1 0)) (unhexed (drop 2 cs))
+with_none : (o : Option ℕ) → with_byte o None ≡ None
+with_none None = refl
+with_none (Some b) = refl
+
+unhexed_odd : (cs : List ℕ) → length cs % 2 ≡ 1 → unhexed cs ≡ None
 unfolding unhexed
-unhexed_pair [] h = absurd (omega arith)
-unhexed_pair (c ∷ []) h = absurd (omega arith)
-unhexed_pair (c ∷ d ∷ cs) h = refl
+unhexed_odd [] e = absurd (omega arith)
+unhexed_odd (c ∷ []) e = refl
+unhexed_odd (c ∷ d ∷ cs) e = rw (unhexed_odd cs (omega arith)) (with_none (pair_value c d))
 
-pub unhexed_odd : (cs : List ℕ) → length cs ≡ 1 → unhexed cs ≡ None
-unfolding unhexed
-unhexed_odd [] h = absurd (omega arith)
-unhexed_odd (c ∷ []) h = refl
-unhexed_odd (c ∷ d ∷ cs) h = absurd (omega arith)
+-- what the library decodes, without its reasons to refuse
+pub decoded : (text : List ℕ) → result_ok (decode_of text) ≡ unhexed text
+decoded text =
+    elim (cases_Bool (eqb (length text % 2) 1)) [
+      | inl e ↦ rw e (sym (unhexed_odd text (eqb-true _ _ e)))
+      | inr e ↦ rw e (unhexed_pairs text 0)
+    ]
 
--- one turn of the loop that reads digits: what is left begins with no byte, or with one
-module _ (text bs rest : List ℕ) (so_far : unhexed text ≡ before bs (unhexed rest)) where
-  pub turn_none : 2 ≤ length rest → None ≡ pair_value (get_or rest 0 0) (get_or rest 1 0) → None ≡ unhexed text
-  turn_none l e = sym (so_far ∙ ap (before bs) (unhexed_pair rest l ∙ ap (λ o. with_byte o (unhexed (drop 2 rest))) (sym e)))
+abbrev same_below : ℕ → Bool
+same_below zero = true
+same_below (suc n) = eqb (get_or lower_digits n 0) (digit n) && same_below n
 
-  pub turn_some : (b : ℕ) (bs₁ : List ℕ) → 2 ≤ length rest → Some b ≡ pair_value (get_or rest 0 0) (get_or rest 1 0) → bs₁ ≡ bs ++ b ∷ []
-      → unhexed text ≡ before bs₁ (unhexed (take (length rest - 2) (drop 2 rest)))
-  turn_some b bs₁ l e p =
-      so_far ∙ ap (before bs) (unhexed_pair rest l ∙ ap (λ o. with_byte o (unhexed (drop 2 rest))) (sym e)) ∙ before_push bs b (unhexed (drop 2 rest))
-      ∙ ap (λ xs. before xs (unhexed (drop 2 rest))) (sym p) ∙ ap (λ r. before bs₁ (unhexed r)) (sym (take_rest rest 2))
+lower_digit : (n : ℕ) → n < 16 → get_or lower_digits n 0 ≡ digit n
+lower_digit =
+    (Decides-below_and (λ k. eqb (get_or lower_digits k 0) (digit k)) (λ k. get_or lower_digits k 0 ≡ digit k) same_below (λ k. Decides-eqb _ _) refl (λ _. refl) 16).0 refl
 
-  pub turn_end : length rest ≡ 0 → Some bs ≡ unhexed text
-  unfolding unhexed
-  turn_end e = sym (so_far ∙ rw (nil_from_length rest e, append-nil bs))
-
-  pub turn_odd : length rest ≡ 1 → None ≡ unhexed text
-  turn_odd e = sym (so_far ∙ ap (before bs) (unhexed_odd rest e))
+pub encoded : (bs : List ℕ) → IsBytes bs → encode_lower bs ≡ hexed bs
+unfolding encode_with hexed
+encoded [] h = refl
+encoded (b ∷ bs) h =
+    let small = h 0 in
+    rw (lower_digit (b / 16) (omega arith), lower_digit (b % 16) (omega arith), encoded bs (λ i. h (suc i)))

@@ -1,16 +1,18 @@
 -- Bytes as pairs of hexadecimal digits.
-use Rattle.std.specs.Prelude.{ℕ, ◌+◌, ◌-◌, ◌*◌, ◌/◌, ◌%◌, cond, ◌&&◌, List, [], ◌∷◌, ◌++◌, Some, None, Option, nat_le, nat_lt}
+use Rattle.std.specs.Prelude.{ℕ, ◌+◌, ◌-◌, ◌*◌, ◌/◌, ◌%◌, cond, ◌&&◌, List, [], ◌∷◌, ◌++◌, Some, None, Option, nat_le, nat_lt, option_map, option_and_then}
 
--- the value of a digit; of what is no digit, 16
-abbrev pub digit_value : ℕ → ℕ
-digit_value c = cond (nat_le 48 c && nat_le c 57) (c - 48) (cond (nat_le 97 c && nat_le c 102) (c - 87) (cond (nat_le 65 c && nat_le c 70) (c - 55) 16))
+-- the value of a digit; none of what is no digit
+abbrev pub digit_value : ℕ → Option ℕ
+digit_value c =
+    cond (nat_le 48 c && nat_le c 57) (Some (c - 48)) (cond (nat_le 97 c && nat_le c 102) (Some (c - 87)) (cond (nat_le 65 c && nat_le c 70) (Some (c - 55)) None))
 
 abbrev pub before : List ℕ → Option (List ℕ) → Option (List ℕ)
 before bs None = None
 before bs (Some cs) = Some (bs ++ cs)
 
+-- the byte that two digits spell
 abbrev pub pair_value : ℕ → ℕ → Option ℕ
-pair_value c d = cond (nat_lt (digit_value c) 16 && nat_lt (digit_value d) 16) (Some (16 * digit_value c + digit_value d)) None
+pair_value c d = option_and_then (λ high. option_map (λ low. 16 * high + low) (digit_value d)) (digit_value c)
 
 abbrev pub with_byte : Option ℕ → Option (List ℕ) → Option (List ℕ)
 with_byte None o = None

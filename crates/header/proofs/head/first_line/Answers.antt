@@ -1,21 +1,24 @@
--- The line is what stands before its end, and the rest what stands after that.
-use Rattle.std.proofs.Common.{drop, sym, ap, ◌∙◌, arith}
-use Rattle.std.proofs.lemmas.List.{nil_from_length}
-use Rattle.model.specs.Mail.{line_of}
-use Rattle.header.proofs.Lines.{first_line_is, after_line_end, after_last_line}
+-- The line ends at the first end of a line, or with the bytes.
+use Rattle.std.proofs.Common.{◌+◌, eqb, length, take, drop, suc, sym, ap, ◌∙◌, arith, rules, take_all, add-one}
+use Rattle.std.proofs.lemmas.List.{take_rest, drop_all}
+use Rattle.std.proofs.lemmas.List.Sums.{position_or_len_is}
+use Rattle.header.proofs.Lines.{line_of_first, after_line_first}
 use Rattle.header.proofs.head.first_line.Goals as goal
-use Rattle.header.proofs.head.first_line.Goals.{then-end-bytes, else-end-bytes}
 
-pub returns-then-end-eq0 : goal.returns-then-end-eq0
-returns-then-end-eq0 c = nil_from_length (line_of c.args.bytes.now) (sym c.line_length-end.ensures.value ∙ c.if-end-eq0.true)
+pub returns-in-Some : goal.returns-in-Some
+returns-in-Some c =
+    let bytes = c.args.bytes.now in
+    let found = position_or_len_is (λ b. eqb b 10) bytes c.in-Some.end 0 (search rules) (search rules) (search rules) in
+    record {
+      line = sym (line_of_first bytes ∙ ap (λ n. take n bytes) found);
+      rest = take_rest bytes (c.in-Some.end + 1) ∙ rw add-one (sym (after_line_first bytes ∙ ap (λ n. drop (suc n) bytes) found));
+    }
 
-pub returns : goal.returns
-returns c =
-    first_line_is
-    c.args.bytes.now c.line_length-end.result c.if-end-bytes.next c.line_length-end.ensures.value c.if-end-eq0.false
-    (elim c.if-end-bytes.branch [
-      | then-end-bytes w ↦ ap (λ n. drop n c.args.bytes.now) w.next-is ∙ after_line_end c.args.bytes.now c.line_length-end.result c.line_length-end.ensures.value
-      | else-end-bytes w ↦ ap (λ n. drop n c.args.bytes.now) w.next-is ∙ after_last_line c.args.bytes.now c.line_length-end.result c.line_length-end.ensures.value w.if-end-bytes.false
-    ])
-    (elim c.if-end-bytes.branch [ then-end-bytes w ↦ omega (arith, w.next-is) | else-end-bytes w ↦ omega (arith, w.next-is) ])
-    (elim c.if-end-bytes.branch [ then-end-bytes w ↦ omega (arith, w.next-is) | else-end-bytes w ↦ omega (arith, w.next-is) ])
+pub returns-in-None : goal.returns-in-None
+returns-in-None c =
+    let bytes = c.args.bytes.now in
+    let none = position_or_len_is (λ b. eqb b 10) bytes (length bytes) 0 (omega arith) (search rules) (search rules) in
+    record {
+      line = sym (line_of_first bytes ∙ ap (λ n. take n bytes) none ∙ take_all (length bytes) bytes (omega arith));
+      rest = sym (after_line_first bytes ∙ ap (λ n. drop (suc n) bytes) none ∙ drop_all (suc (length bytes)) bytes (omega arith));
+    }

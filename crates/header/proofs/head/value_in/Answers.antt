@@ -1,24 +1,37 @@
--- A line is one of the field if it begins with the name and a colon follows; each way out lacks one of these.
+-- A line is one of the field if its front is the name and a colon follows; each way out lacks one of these.
 use Rattle.std.proofs.Common.{◌≡◌, ◌+◌, length, drop, sym, ap, ◌∙◌, arith}
-use Rattle.std.proofs.lemmas.List.{take_rest}
-use Rattle.model.specs.Mail.{no_blanks}
-use Rattle.header.proofs.Lines.{line_value_is, of_field_named, of_field_unnamed, of_field_short, of_field_no_colon}
+use Rattle.std.proofs.lemmas.Bool.{and_right}
+use Rattle.std.proofs.lemmas.List.{drop-drop}
+use Rattle.model.specs.Mail.{no_blanks, same, smalls}
+use Rattle.header.proofs.Small.{length_no_blanks}
+use Rattle.header.proofs.Lines.{of_field_split, of_field_short}
 use Rattle.header.proofs.head.value_in.Goals as goal
-use Rattle.header.proofs.head.value_in.Goals.{else-begins_with-via-then-begins_with+then-colon-line+else-line-colon-eq58, else-begins_with-via-then-begins_with+else-colon-line, else-begins_with-via-else-begins_with}
 
-pub returns-then-line-colon-eq58 : goal.returns-then-line-colon-eq58
-returns-then-line-colon-eq58 c =
-    line_value_is c.args.name.now c.args.line.now c.without_blanks.result.now
-    (of_field_named c.args.name.now c.args.line.now (sym c.if-begins_with.ensures) c.if-colon-line.true c.if-line-colon-eq58.true)
-    c.if-colon-line.true
-    (c.without_blanks.ensures
-    ∙ ap no_blanks (take_rest c.args.line.now (length c.args.name.now + 1))
-    ∙ (let z : length c.args.name.now + 1 ≡ 1 + length c.args.name.now = omega arith in ap (λ n. no_blanks (drop n c.args.line.now)) z))
+pub returns-in_err-front : goal.returns-in_err-front
+returns-in_err-front c = rw c.from_residual.ensures (of_field_short c.args.name.now c.args.line.now c.in_err-front.ensures.cases)
 
-pub returns-else-begins_with : goal.returns-else-begins_with
-returns-else-begins_with c =
-    elim c.else-begins_with.branch [
-      | else-begins_with-via-then-begins_with+then-colon-line+else-line-colon-eq58 w ↦ of_field_no_colon c.args.name.now c.args.line.now w.if-colon-line.true w.if-line-colon-eq58.false
-      | else-begins_with-via-then-begins_with+else-colon-line w ↦ of_field_short c.args.name.now c.args.line.now w.if-colon-line.false
-      | else-begins_with-via-else-begins_with w ↦ of_field_unnamed c.args.name.now c.args.line.now (sym w.if-begins_with.ensures)
-    ]
+pub returns-then-not-equals : goal.returns-then-not-equals
+returns-then-not-equals c =
+    of_field_split c.args.name.now c.args.line.now c.in_ok-front.front.now c.in_ok-front.rest.now c.in_ok-front.ensures.cases
+    ∙ rw (sym c.if-not-equals.ensures)
+
+pub returns-in_err-strip_prefix : goal.returns-in_err-strip_prefix
+returns-in_err-strip_prefix c =
+    rw c.from_residual-in_err-strip_prefix.ensures
+    (of_field_split c.args.name.now c.args.line.now c.in_ok-front.front.now c.in_ok-front.rest.now c.in_ok-front.ensures.cases
+    ∙ and_right (same (smalls c.args.name.now) (smalls c.in_ok-front.front.now)) _ c.in_err-strip_prefix.ensures.cases)
+
+pub returns : goal.returns
+returns c =
+    let split = c.in_ok-front.ensures.cases in
+    let stripped = c.in_ok-strip_prefix.ensures.cases in
+    let after : length c.args.name.now + 1 ≡ 1 + length c.args.name.now = omega arith in
+    record {
+      named =
+          of_field_split c.args.name.now c.args.line.now c.in_ok-front.front.now c.in_ok-front.rest.now split
+          ∙ rw (sym c.if-not-equals.ensures, stripped.0);
+      value_is =
+          c.without_blanks.ensures
+          ∙ ap no_blanks (stripped.1 ∙ ap (drop 1) split.2 ∙ drop-drop 1 (length c.args.name.now) c.args.line.now ∙ ap (λ n. drop n c.args.line.now) after);
+      shorter = omega (arith, ap length c.without_blanks.ensures, length_no_blanks c.in_ok-strip_prefix.field-0.now, stripped.2, split.4);
+    }

@@ -1,17 +1,19 @@
--- The part stands at the front of what is left, or in its tail.
-use Rattle.std.proofs.Common.{sym, ◌∙◌}
-use Rattle.model.specs.Mail.{smalls}
-use Rattle.header.proofs.Small.{holds_here, holds_none, holds_tail}
+-- Nothing is in every text; a part that is something is one of the text's windows.
+use Rattle.std.proofs.Common.{◌<◌, sym, ◌∙◌, arith, rules, tests, length, true-eqb, false-eqb}
+use Rattle.std.proofs.lemmas.Iterator.Search.{any_from_yields_List}
+use Rattle.model.specs.Mail.{small, smalls, same}
+use Rattle.header.proofs.Small.{length_each}
+use Rattle.header.proofs.Parts.{YieldsList-from_windows, holds_windows, holds_nothing}
 use Rattle.header.proofs.text.contains.Goals as goal
 
-pub returns-in_default : goal.returns-in_default
-returns-in_default c =
-    sym (holds_none (smalls c.args.part.now) c.loop-rest.rest.now c.in_default.ensures.cases (sym c.loop-rest-test.ensures)) ∙ c.loop-rest.invariant
+pub returns-then-is_empty : goal.returns-then-is_empty
+returns-then-is_empty c =
+    c.if-is_empty.true
+    ∙ sym (holds_nothing (smalls c.args.part.now) (smalls c.args.text.now) (length_each small c.args.part.now ∙ true-eqb _ _ c.if-is_empty.ensures))
 
-pub loop-rest-preserved : goal.loop-rest-preserved
-loop-rest-preserved c =
-    sym (holds_tail (smalls c.args.part.now) c.loop-rest.rest.now c.in-Some.field-0-0.now c.in-Some.tail.now c.in-Some.ensures.cases.0 (sym c.loop-rest-test.ensures))
-    ∙ c.loop-rest.invariant
-
-pub returns : goal.returns
-returns c = sym (holds_here (smalls c.args.part.now) (smalls c.loop-rest.rest.now) (sym c.loop-rest-test.ensures)) ∙ c.loop-rest.invariant
+pub returns-else-is_empty : goal.returns-else-is_empty
+returns-else-is_empty c =
+    let some : 0 < length c.args.part.now = omega (arith, false-eqb _ _ c.if-is_empty.ensures) in
+    any_from_yields_List (λ w. same (smalls c.args.part.now) (smalls w)) _ _ _ c.any.ensures.ran
+    (YieldsList-from_windows (length c.args.part.now) c.args.text.now some (cc) (cc)) (λ x b q k. search (rules, tests))
+    ∙ holds_windows c.args.part.now c.args.text.now some

@@ -1,13 +1,19 @@
 -- The readers of the definition, as the code meets them: what each answers in each case.
-use Rattle.std.proofs.Common.{◌≡◌, ℕ, zero, suc, ◌+◌, ◌-◌, ◌*◌, ◌<◌, ◌≤◌, true, false, eqb, leb, ◌⊎◌, List, [], ◌∷◌, ◌++◌, length, get_or, take, drop, Some, None, Option, sym, refl, ap, ◌∙◌, inl, inr, sub-one, arith, Bor, MatchOption}
-use Rattle.std.proofs.lemmas.Bool.{lt-leb, le-leb, eqb-true, eqb-false}
-use Rattle.std.proofs.lemmas.List.{length-take-le, get_or_past}
-use Rattle.model.specs.Mail.{all_bytes, eight, with_length}
+use Rattle.std.proofs.Common.{◌≡◌, ℕ, zero, suc, ◌+◌, ◌-◌, ◌*◌, ◌<◌, ◌≤◌, true, false, leb, List, [], ◌∷◌, ◌++◌, length, get_or, take, drop, Some, None, Option, subst, sym, refl, ap, ◌∙◌, sub-one, arith, Bor, MatchOption, Bool, ◌&&◌}
+use Rattle.std.specs.Bool.{then_some}
+use Rattle.std.specs.Option.{option_map, option_and_then}
+use Rattle.std.specs.List.{FoldsTo}
+use Rattle.std.specs.Iterator.{Yields, YieldsThen}
+use Rattle.std.specs.Fn.{Called}
+use Rattle.std.specs.declared.ops.Range.{Range}
+use denote.Param.Members.{Mut}
+use Rattle.std.proofs.lemmas.Bool.{lt-leb, le-leb}
+use Rattle.std.proofs.lemmas.List.{length-take-le}
+use Rattle.model.specs.Mail.{pick, all_bytes, eight, with_length}
 use Rattle.model.specs.Promise.{from_bytes}
-use Rattle.commands.specs.Lent.{lent_and_rest, left_after}
-use Rattle.commands.specs.Reader.{Reader, first, read_number, read_counted, read_name, read_letter, given, go_on, made, by_kind, nothing, only, so_many, listed, test_kinds, read_test, command_kinds, read_command, all_used, command_of}
+use Rattle.commands.specs.Lent.{lent_and_rest, left_after, after_many, after_counted}
+use Rattle.commands.specs.Reader.{Reader, first, read_number, read_counted, given, go_on, made, by_kind, only, so_many, listed, test_kinds, read_test}
 use Rattle.commands.proofs.Bytes.{all_bytes_take, all_bytes_parts}
-use Rattle.commands.proofs.Readers.{nothing_read, same_some}
 use Rattle.commands.proofs.Numbers.{counted_reads}
 
 pub first_short : (n : ℕ) (bs : List ℕ) → length bs < n → first n bs ≡ None
@@ -63,80 +69,93 @@ counted_bytes bs v rest e t =
     let whole : all_bytes (with_length v ++ rest) ≡ true = rw h t in
     (all_bytes_parts (eight (length v)) v (all_bytes_parts (with_length v) rest whole).0).1
 
-pub name_there : (bs v rest : List ℕ) → Some (v, rest) ≡ read_counted bs → all_bytes bs ≡ true → eqb (length v) 0 ≡ false → length v ≤ 64 → Some (v, rest) ≡ read_name bs
-unfolding read_name
-name_there bs v rest e t low high =
-    let ne = eqb-false (length v) 0 low in
-    sym (rw (sym e, le-leb 1 (length v) (omega arith), le-leb (length v) 64 high, counted_bytes bs v rest e t))
-
-pub name_refused : (bs v rest : List ℕ) → Some (v, rest) ≡ read_counted bs → (eqb (length v) 0 ≡ true) ⊎ (64 < length v) → None ≡ read_name bs
-unfolding read_name
-name_refused bs v rest e (inl h) = let z = eqb-true (length v) 0 h in sym (rw (sym e, lt-leb 1 (length v) (omega arith)))
-name_refused bs v rest e (inr h) = sym (rw (sym e, le-leb 1 (length v) (omega arith), lt-leb (length v) 64 h))
-
-pub letter_there : (bs v rest : List ℕ) → Some (v, rest) ≡ read_counted bs → all_bytes bs ≡ true → length v ≤ 65000 → Some (v, rest) ≡ read_letter bs
-unfolding read_letter
-letter_there bs v rest e t high = sym (rw (sym e, le-leb (length v) 65000 high, counted_bytes bs v rest e t))
-
-pub letter_refused : (bs v rest : List ℕ) → Some (v, rest) ≡ read_counted bs → 65000 < length v → None ≡ read_letter bs
-unfolding read_letter
-letter_refused bs v rest e h = sym (rw (sym e, lt-leb (length v) 65000 h))
-
-pub no_such_kind : {A : Type 0} (rs : List (Reader A)) (bs : List ℕ) (k : ℕ) (rest : List ℕ) → bs ≡ k ∷ rest → length rs ≤ k → by_kind rs bs ≡ None
-unfolding by_kind
-no_such_kind rs bs k rest e h = rw (e, get_or_past rs k nothing h)
+-- what was counted is kept where it passes a test; its bytes are known to be such
+pub kept_bytes :
+    (test : List ℕ → Bool) (bs : List ℕ) (o r : Option (Bor (List ℕ) × Bor (List ℕ))) → all_bytes bs ≡ true → lent_and_rest o ≡ read_counted bs →
+    MatchOption o (r ≡ None) (λ p. r ≡ then_some (test p.0.now) p) → lent_and_rest r ≡ only (λ v. test v && all_bytes v) read_counted bs
+kept_bytes test bs None r t e h = rw (h, sym e)
+kept_bytes test bs (Some p) r t e h = rw (h, sym e, counted_bytes bs p.0.now p.1.now e t) (by (test p.0.now))
+  where
+    by : (b : Bool) → lent_and_rest (then_some b p) ≡ pick (b && true) (Some (p.0.now, p.1.now)) None
+    by true = refl
+    by false = refl
 
 pub test_at : (d : ℕ) (bs : List ℕ) → 0 < d → read_test d bs ≡ by_kind (test_kinds (read_test (d - 1))) bs
 unfolding read_test
 test_at zero bs h = absurd (omega arith)
 test_at (suc d) bs h = rw (sub-one (suc d))
 
--- so many of something, one at a time, by what is left after each
-pub so_many_more : {A : Type 0} (r : Reader A) (n : ℕ) (bs mid : List ℕ) → Some mid ≡ left_after (r bs) → left_after (so_many r (suc n) bs) ≡ left_after (so_many r n mid)
-unfolding so_many
-so_many_more {A = A} r n bs mid e = go (r bs) (so_many r n) e
+pub no_test : (d : ℕ) (bs : List ℕ) → ¬ (1 ≤ d) → read_test d bs ≡ None
+unfolding read_test
+no_test zero bs h = refl
+no_test (suc d) bs h = absurd (h (omega arith))
+
+-- what is left after so many of something is what is left after one, so many times
+pub so_many_after : {A : Type 0} (r : Reader A) (n : ℕ) (bs : List ℕ) → left_after (so_many r n bs) ≡ after_many (λ x. left_after (r x)) n bs
+unfolding so_many after_many
+so_many_after r zero bs = refl
+so_many_after {A = A} r (suc n) bs = go (r bs) (so_many_after r n)
   where
     rest_of_list : (a : A) (o : Option (List A × List ℕ)) → left_after (go_on {A = A × List A} (go_on o (λ b. given (a, b))) (λ p. given (p.0 ∷ p.1))) ≡ left_after o
     rest_of_list a None = refl
     rest_of_list a (Some p) = refl
 
-    go : (o : Option (A × List ℕ)) (s : Reader (List A)) → Some mid ≡ left_after o →
-        left_after (go_on {A = A × List A} (go_on o (λ a. made (λ b. (a, b)) s)) (λ p. given (p.0 ∷ p.1))) ≡ left_after (s mid)
-    go None s e = nothing_read mid (sym e)
-    go (Some p) s e = rest_of_list p.0 (s p.1) ∙ ap (λ x. left_after (s x)) (sym (same_some mid p.1 e))
+    go : (o : Option (A × List ℕ)) → ((x : List ℕ) → left_after (so_many r n x) ≡ after_many (λ x. left_after (r x)) n x) →
+        left_after (go_on {A = A × List A} (go_on o (λ a. made (λ b. (a, b)) (so_many r n))) (λ p. given (p.0 ∷ p.1))) ≡
+        option_and_then (after_many (λ x. left_after (r x)) n) (left_after o)
+    go None more = refl
+    go (Some p) more = rest_of_list p.0 (so_many r n p.1) ∙ more p.1
 
-pub so_many_stops : {A : Type 0} (r : Reader A) (n : ℕ) (bs : List ℕ) → None ≡ left_after (r bs) → left_after (so_many r (suc n) bs) ≡ None
-unfolding so_many
-so_many_stops {A = A} r n bs e = go (r bs) (so_many r n) e
-  where
-    go : (o : Option (A × List ℕ)) (s : Reader (List A)) → None ≡ left_after o →
-        left_after (go_on {A = A × List A} (go_on o (λ a. made (λ b. (a, b)) s)) (λ p. given (p.0 ∷ p.1))) ≡ None
-    go None s e = refl
-    go (Some p) s e = nothing_read p.1 e
-
--- a loop over so many of something: what is still to be read leaves what all of them leave
-module _ {A : Type 0} (r : Reader A) (n i : ℕ) (bs : List ℕ) (end : Option (List ℕ)) (so_far : left_after (so_many r (n - i) bs) ≡ end) where
-  pub many_again : (mid : List ℕ) → i < n → Some mid ≡ left_after (r bs) → left_after (so_many r (n - (i + 1)) mid) ≡ end
-  many_again mid h e =
-      let k : n - i ≡ suc (n - (i + 1)) = omega arith in
-      sym (so_many_more r (n - (i + 1)) bs mid e) ∙ ap (λ m. left_after (so_many r m bs)) (sym k) ∙ so_far
-
-  pub many_stop : i < n → None ≡ left_after (r bs) → None ≡ end
-  many_stop h e =
-      let k : n - i ≡ suc (n - (i + 1)) = omega arith in
-      sym (so_many_stops r (n - (i + 1)) bs e) ∙ ap (λ m. left_after (so_many r m bs)) (sym k) ∙ so_far
-
-  pub many_end : n ≤ i → Some bs ≡ end
-  unfolding so_many
-  many_end h = let k : 0 ≡ n - i = omega arith in ap (λ m. left_after (so_many r m bs)) k ∙ so_far
-
-pub many_at_first :
-    {A : Type 0} (most : ℕ) (r : Reader A) (bs : List ℕ) (n : ℕ) (rest : List ℕ) →
-    Some (n, rest) ≡ only (λ n. leb n most) read_number bs → left_after (so_many r (n - 0) rest) ≡ left_after (listed most r bs)
+pub listed_after :
+    {A : Type 0} (most : ℕ) (r : Reader A) (bs : List ℕ) → left_after (listed most r bs) ≡ after_counted (λ x. left_after (r x)) (only (λ n. leb n most) read_number bs)
 unfolding listed
-many_at_first most r bs n rest e = let z : n - 0 ≡ n = omega arith in rw z (ap (λ o. left_after (go_on o (so_many r))) e)
+listed_after {A = A} most r bs = go (only (λ n. leb n most) read_number bs)
+  where
+    go : (o : Option (ℕ × List ℕ)) → left_after (go_on o (so_many r)) ≡ after_counted (λ x. left_after (r x)) o
+    go None = refl
+    go (Some p) = so_many_after r p.0 p.1
 
-pub no_such_command : (k : ℕ) (text bytes : List ℕ) → text ≡ k ∷ bytes → (0 < k → 14 ≤ k) → command_of text ≡ None
-unfolding command_of read_command by_kind
-no_such_command zero text bytes e h = rw e
-no_such_command (suc k) text bytes e h = ap all_used (no_such_kind command_kinds text (suc k) bytes e (h (omega arith)))
+-- how a range of numbers gives its next one
+abbrev pub range_steps : Range ℕ → Option ℕ → Range ℕ → Type 0
+range_steps s o t = (t.end ≡ s.end) × MatchOption o ((s.end - s.start ≡ 0) × (t.start ≡ s.start)) (λ x. (0 < s.end - s.start) × (x ≡ s.start) × (t.start ≡ s.start + 1))
+
+-- calls that are folded over a range, each of which answers what is left after one more
+module _ {F : Type 0} (g : Mut F (Bor (List ℕ) × (ℕ × Unit {0})) (Option (Bor (List ℕ)))) (one : List ℕ → Option (List ℕ)) (f : F)
+    (called : (a : Bor (List ℕ)) (x : ℕ) (v : Option (Bor (List ℕ))) (f' : F) → Called g f (a, (x, tt)) v f' → (option_map (λ y. y.now) v ≡ one a.now) × (f' ≡ f)) where
+  abbrev turn : F × Bor (List ℕ) → ℕ → F × Bor (List ℕ) → Type 0
+  turn p x q = (v : Option (Bor (List ℕ))) × Called g p.0 (p.1, (x, tt)) v q.0 × (v ≡ Some q.1)
+
+  turns : (xs : List ℕ) (s t : Range ℕ) (a b : Bor (List ℕ)) (f' : F) → Yields range_steps s xs t → FoldsTo turn (f, a) xs (f', b) →
+      (after_many one (s.end - s.start) a.now ≡ after_many one (t.end - t.start) b.now) × (f' ≡ f)
+  unfolding after_many
+  turns [] s t a b f' y e = (
+    ap (λ (q : Range ℕ). after_many one (q.end - q.start) a.now) y ∙ ap (λ (q : F × Bor (List ℕ)). after_many one (t.end - t.start) q.1.now) e,
+    sym (ap (λ (q : F × Bor (List ℕ)). q.0) e),
+  )
+  turns (x ∷ xs) s t a b f' y e =
+      let h = called a x e.1.0 e.0.0 e.1.1 in
+      let n : s.end - s.start ≡ suc (y.0.end - y.0.start) = omega (arith, y.1.0, y.1.1.0, y.1.1.2) in
+      let left : one a.now ≡ Some e.0.1.now = sym h.0 ∙ ap (option_map (λ y. y.now)) e.1.2 in
+      let more = turns xs y.0 t e.0.1 b f' y.2 (subst (λ (q : F). FoldsTo turn (q, e.0.1) xs (f', b)) h.1 e.2) in
+      (rw (n, left) more.0, more.1)
+
+  pub folded_after :
+      {E : Type 0} (n : ℕ) (u : Range ℕ) (a : Bor (List ℕ)) (r : Option (Bor (List ℕ))) →
+      (xs : List ℕ) × (o : Option ℕ) × (f' : F) × (b : Bor (List ℕ)) × YieldsThen range_steps (record { start = 0; end = n }) xs o u × FoldsTo turn (f, a) xs (f', b)
+      × MatchOption o (r ≡ Some b) (λ x. (v : Option (Bor (List ℕ))) × (h : F) × (e : E) × Called g f' (b, (x, tt)) v h × (v ≡ None) × (r ≡ None)) →
+      option_map (λ y. y.now) r ≡ after_many one n a.now
+  unfolding after_many
+  folded_after {E} n u a r (xs, o, f', b, (t, y, step), folds, last) =
+      let h = turns xs (record { start = 0; end = n }) t a b f' y folds in
+      let all : n - 0 ≡ n = omega arith in
+      go o step last h.1 ∙ sym h.0 ∙ ap (λ k. after_many one k a.now) all
+    where
+      go : (o : Option ℕ) → range_steps t o u →
+          MatchOption o (r ≡ Some b) (λ x. (v : Option (Bor (List ℕ))) × (h : F) × (e : E) × Called g f' (b, (x, tt)) v h × (v ≡ None) × (r ≡ None)) → f' ≡ f →
+          option_map (λ y. y.now) r ≡ after_many one (t.end - t.start) b.now
+      go None step last same = rw (last, step.1.0)
+      go (Some x) step last same =
+          let h = called b x last.0 last.1 (subst (λ (q : F). Called g q (b, (x, tt)) last.0 last.1) same last.3) in
+          let n : t.end - t.start ≡ suc (t.end - t.start - 1) = omega (arith, step.1.0) in
+          let none : one b.now ≡ None = sym h.0 ∙ ap (option_map (λ y. y.now)) last.4 in
+          rw (last.5, n, none)

@@ -3,9 +3,8 @@ use Rattle.std.proofs.Common.{◌≡◌, ℕ, true, ◌&&◌, leb, List, [], ◌
 use Rattle.std.specs.Option.{option_map}
 use Rattle.model.specs.Mail.{every, Rule, Test}
 use Rattle.model.specs.House.{Command, rules, find, rules_spelled, rule_fits, test_spelled, test_fits}
-use Rattle.commands.specs.declared.Command.{Command as Lent}
 use Rattle.commands.specs.declared.Command.TheVariants.{Rules, Find}
-use Rattle.commands.specs.Meaning.{meaning, Answers}
+use Rattle.commands.specs.Meaning.{Lent, meaning, Answers}
 use Rattle.commands.specs.Reader.{no_more, whole, read_rules, read_test}
 use Rattle.commands.proofs.Readers.{nothing_read, same_some, whole_was_spelled}
 use Rattle.commands.proofs.Spellings.{rules_reads, test_reads}

@@ -2,89 +2,116 @@
 // that it answers none just where they spell none. It knows nothing of houses, and does nothing with a command.
 #![tactic(auto)]
 
+ghost use Rattle.std.specs.Prelude.{◌≡◌};
 ghost use Rattle.model.specs.Promise.{SpelledOnce};
-ghost use Rattle.commands.specs.Meaning.{Answers};
+ghost use Rattle.commands.specs.Meaning.{Answers, kind_of};
 ghost use Rattle.commands.specs.Reader.{command_of};
 ghost use Rattle.commands.specs.Reads.{Reads};
 
-mod kinds;
+mod kind;
 mod parts;
 mod rules;
+mod texts;
 
-// A command. Names, letters, rules and tests stay where they lie in the text; rules and a test are spelled there as the text spells them,
-// and are known to be so.
-#[derive(Clone, Copy)]
-pub enum Command<'a> {
+pub use kind::{Kind, UnknownKind};
+
+// A command, over its bytes: lent ones, which stay where they lie in the text, or ones of its own. Rules and a test are held as the text
+// spells them, and are known to be so where the command was read.
+#[derive(Clone, Copy, PartialEq, Eq, Debug, Drop)]
+pub enum Command<B> {
     Join {
-        name: &'a [u8],
+        name: B,
     },
     HandIn {
         house: u64,
         person: u64,
-        letter: &'a [u8],
+        letter: B,
     },
     Boxes {
         person: u64,
     },
     NewBox {
         person: u64,
-        name: &'a [u8],
+        name: B,
     },
     DropBox {
         person: u64,
-        name: &'a [u8],
+        name: B,
     },
     List {
         person: u64,
-        mailbox: &'a [u8],
+        mailbox: B,
         from: u64,
         count: u64,
     },
     Get {
         person: u64,
-        mailbox: &'a [u8],
+        mailbox: B,
         number: u64,
         from: u64,
         count: u64,
     },
     SetMark {
         person: u64,
-        mailbox: &'a [u8],
+        mailbox: B,
         number: u64,
         mark: u8,
         on: bool,
     },
     ToBox {
         person: u64,
-        mailbox: &'a [u8],
+        mailbox: B,
         number: u64,
-        other: &'a [u8],
+        other: B,
     },
     Clear {
         person: u64,
-        mailbox: &'a [u8],
+        mailbox: B,
     },
     Rules {
         person: u64,
-        rules: &'a [u8],
+        rules: B,
     },
     Find {
         person: u64,
-        mailbox: &'a [u8],
-        test: &'a [u8],
+        mailbox: B,
+        test: B,
     },
     Push {
         house: u64,
     },
 }
 
+impl<B> Command<B> {
+    // The kind of a command, whatever else is in it.
+    pub fn kind(&self) -> Kind
+        ensures { result ≡ kind_of self.now }
+    {
+        match self {
+            Command::Join { .. } => Kind::Join,
+            Command::HandIn { .. } => Kind::HandIn,
+            Command::Boxes { .. } => Kind::Boxes,
+            Command::NewBox { .. } => Kind::NewBox,
+            Command::DropBox { .. } => Kind::DropBox,
+            Command::List { .. } => Kind::List,
+            Command::Get { .. } => Kind::Get,
+            Command::SetMark { .. } => Kind::SetMark,
+            Command::ToBox { .. } => Kind::ToBox,
+            Command::Clear { .. } => Kind::Clear,
+            Command::Rules { .. } => Kind::Rules,
+            Command::Find { .. } => Kind::Find,
+            Command::Push { .. } => Kind::Push,
+        }
+    }
+}
+
 // The command that a text spells, if all of it spells one: a command is read just where it is said, and no two are spelled alike.
-pub fn read(text: &[u8]) -> Option<Command<'_>>
+pub fn read(text: &[u8]) -> Option<Command<&[u8]>>
     ensures answers { Answers result (command_of text.now) }
     ensures reads { Reads }
     ensures spelled_once { SpelledOnce }
 {
-    kinds::command(text)
+    texts::command(text)
 }
 
 #[cfg(test)]

@@ -1,9 +1,11 @@
 // Tests and rules are handed on as they stand in the text, so these functions only go past them: each answers what follows.
 ghost use Rattle.std.specs.Prelude.{◌≡◌};
 ghost use Rattle.std.specs.Option.{option_map};
-ghost use Rattle.commands.specs.Lent.{left_after};
-ghost use Rattle.commands.specs.Reader.{pair, listed, read_name, read_house, read_person, read_test, read_action, read_rule, read_rules};
+ghost use Rattle.commands.specs.Kind.{DecodesTest, DecodesAction};
+ghost use Rattle.commands.specs.Lent.{left_after, AfterList};
+ghost use Rattle.commands.specs.Reader.{read_test, read_action, read_rule, read_rules};
 
+use crate::UnknownKind;
 use crate::parts::{house, mark, name, number, number_up_to, person};
 
 const MOST_RULES: u64 = 32;
@@ -13,108 +15,120 @@ const MOST_ACTIONS: u64 = 8;
 // A test may hold tests, three more deep.
 pub const DEEPEST_TEST: u8 = 4;
 
-// The first byte of a test.
-const ALWAYS: u8 = 0;
-
-const FIELD_HAS: u8 = 1;
-
-const FIELD_IS: u8 = 2;
-
-const LONGER: u8 = 3;
-
-const MARKED: u8 = 4;
-
-const NEITHER: u8 = 5;
-
-const BOTH: u8 = 6;
-
-const EITHER: u8 = 7;
-
-// The first byte of an action.
-const KEEP: u8 = 0;
-
-const FILE: u8 = 1;
-
-const AWAY: u8 = 2;
-
-const ON_TO: u8 = 3;
-
-const MARK: u8 = 4;
-
-const HALT: u8 = 5;
-
-// The name and the value that a test of a field has.
-fn after_two_names(bytes: &[u8]) -> Option<&[u8]>
-    ensures { option_map (λ x. x.now) result ≡ left_after (pair read_name read_name bytes.now) }
-{
-    let (_, rest) = name(bytes)?;
-    let (_, rest) = name(rest)?;
-    Some(rest)
+// A kind of test, with the byte that each test of that kind begins with.
+#[derive(Clone, Copy, PartialEq, Eq, Debug)]
+enum TestKind {
+    Always = 0,
+    FieldHas = 1,
+    FieldIs = 2,
+    Longer = 3,
+    Marked = 4,
+    Neither = 5,
+    Both = 6,
+    Either = 7,
 }
 
-// Somebody at a house.
-fn after_address(bytes: &[u8]) -> Option<&[u8]>
-    ensures { option_map (λ x. x.now) result ≡ left_after (pair read_house read_person bytes.now) }
-{
-    let (_, rest) = house(bytes)?;
-    let (_, rest) = person(rest)?;
-    Some(rest)
+// The number stands twice: an enum is made from a number by a match alone.
+impl TryFrom<u8> for TestKind {
+    type Error = UnknownKind;
+
+    ghost try_from_gives = { DecodesTest };
+
+    fn try_from(byte: u8) -> Result<TestKind, UnknownKind> {
+        match byte {
+            0 => Ok(TestKind::Always),
+            1 => Ok(TestKind::FieldHas),
+            2 => Ok(TestKind::FieldIs),
+            3 => Ok(TestKind::Longer),
+            4 => Ok(TestKind::Marked),
+            5 => Ok(TestKind::Neither),
+            6 => Ok(TestKind::Both),
+            7 => Ok(TestKind::Either),
+            _ => Err(UnknownKind(byte)),
+        }
+    }
+}
+
+// A kind of action, with the byte that each action of that kind begins with.
+#[derive(Clone, Copy, PartialEq, Eq, Debug)]
+enum ActionKind {
+    Keep = 0,
+    File = 1,
+    Away = 2,
+    OnTo = 3,
+    Mark = 4,
+    Halt = 5,
+}
+
+// The number stands twice: an enum is made from a number by a match alone.
+impl TryFrom<u8> for ActionKind {
+    type Error = UnknownKind;
+
+    ghost try_from_gives = { DecodesAction };
+
+    fn try_from(byte: u8) -> Result<ActionKind, UnknownKind> {
+        match byte {
+            0 => Ok(ActionKind::Keep),
+            1 => Ok(ActionKind::File),
+            2 => Ok(ActionKind::Away),
+            3 => Ok(ActionKind::OnTo),
+            4 => Ok(ActionKind::Mark),
+            5 => Ok(ActionKind::Halt),
+            _ => Err(UnknownKind(byte)),
+        }
+    }
 }
 
 // A test that is at most so deep.
+#[tactic(auto, using(crate::proofs::Laws::no_test, crate::proofs::Laws::test_at), unfolding(crate::specs::Reader::by_kind))]
 pub fn after_test(bytes: &[u8], depth: u8) -> Option<&[u8]>
     ensures { option_map (λ x. x.now) result ≡ left_after (read_test depth bytes.now) }
 {
-    if depth == 0 {
-        return None;
-    }
-    let (kind, rest) = bytes.split_first()?;
-    match *kind {
-        ALWAYS => Some(rest),
-        FIELD_HAS | FIELD_IS => after_two_names(rest),
-        LONGER => Some(number(rest)?.1),
-        MARKED => Some(mark(rest)?.1),
-        NEITHER => after_test(rest, depth - 1),
-        BOTH | EITHER => after_test(after_test(rest, depth - 1)?, depth - 1),
-        _ => None,
+    let below = depth.checked_sub(1)?;
+    let (byte, rest) = bytes.split_first()?;
+    match TestKind::try_from(*byte).ok()? {
+        TestKind::Always => Some(rest),
+        TestKind::FieldHas | TestKind::FieldIs => Some(name(name(rest)?.1)?.1),
+        TestKind::Longer => Some(number(rest)?.1),
+        TestKind::Marked => Some(mark(rest)?.1),
+        TestKind::Neither => after_test(rest, below),
+        TestKind::Both | TestKind::Either => after_test(after_test(rest, below)?, below),
     }
 }
 
+// An action, with what its kind is followed by.
+#[tactic(auto, unfolding(crate::specs::Reader::read_action, crate::specs::Reader::by_kind))]
 fn after_action(bytes: &[u8]) -> Option<&[u8]>
     ensures { option_map (λ x. x.now) result ≡ left_after (read_action bytes.now) }
 {
-    let (kind, rest) = bytes.split_first()?;
-    match *kind {
-        KEEP | AWAY | HALT => Some(rest),
-        FILE => Some(name(rest)?.1),
-        ON_TO => after_address(rest),
-        MARK => Some(mark(rest)?.1),
-        _ => None,
+    let (byte, rest) = bytes.split_first()?;
+    match ActionKind::try_from(*byte).ok()? {
+        ActionKind::Keep | ActionKind::Away | ActionKind::Halt => Some(rest),
+        ActionKind::File => Some(name(rest)?.1),
+        ActionKind::OnTo => Some(person(house(rest)?.1)?.1),
+        ActionKind::Mark => Some(mark(rest)?.1),
     }
 }
 
-fn after_actions(bytes: &[u8]) -> Option<&[u8]>
-    ensures { option_map (λ x. x.now) result ≡ left_after (listed 8 read_action bytes.now) }
+// So many of something, at most so many, with their count before them.
+fn after_list<F: Fn(&[u8]) -> Option<&[u8]>>(bytes: &[u8], most: u64, after_one: F) -> Option<&[u8]>
+    requires { F.IsAlwaysCallable after_one }
+    ensures { AfterList (F.post after_one) most bytes.now result }
 {
-    let (count, mut rest) = number_up_to(bytes, MOST_ACTIONS)?;
-    for _ in 0..count {
-        rest = after_action(rest)?;
-    }
-    Some(rest)
+    let (count, rest) = number_up_to(bytes, most)?;
+    (0..count).try_fold(rest, |rest, _| after_one(rest))
 }
 
+// A rule: a test, and the actions that are done where it holds.
 fn after_rule(bytes: &[u8]) -> Option<&[u8]>
     ensures { option_map (λ x. x.now) result ≡ left_after (read_rule bytes.now) }
 {
-    after_actions(after_test(bytes, DEEPEST_TEST)?)
+    after_list(after_test(bytes, DEEPEST_TEST)?, MOST_ACTIONS, after_action)
 }
 
+// The rules of a person.
 pub fn after_rules(bytes: &[u8]) -> Option<&[u8]>
     ensures { option_map (λ x. x.now) result ≡ left_after (read_rules bytes.now) }
 {
-    let (count, mut rest) = number_up_to(bytes, MOST_RULES)?;
-    for _ in 0..count {
-        rest = after_rule(rest)?;
-    }
-    Some(rest)
+    after_list(bytes, MOST_RULES, after_rule)
 }

@@ -1,6 +1,7 @@
 // Texts of every kind of command, each bound just met and just passed.
-use crate::{Command, read};
+use crate::{Command, Kind, UnknownKind, read};
 use std::alloc::{AllocError, Global};
+use std::iter;
 use std::process::Abort;
 use std::test::Fail;
 
@@ -20,17 +21,23 @@ enum Part {
 
 use Part::{Byte, Counted, Mailbox, Number, OneRule, Zeros};
 
+// A number, as a text spells it.
 fn push_number(text: &mut Vec<u8>, number: u64) -> Result<(), AllocError> {
     text.extend_from_slice(&number.to_be_bytes())
 }
 
+// So many zeros.
 fn push_zeros(text: &mut Vec<u8>, count: u64) -> Result<(), AllocError> {
-    for _ in 0..count {
-        text.push(0)?;
-    }
-    Ok(())
+    text.extend(iter::repeat_n(0, count as usize))
 }
 
+// So many zeros, with their count before them.
+fn push_counted(text: &mut Vec<u8>, count: u64) -> Result<(), AllocError> {
+    push_number(text, count)?;
+    push_zeros(text, count)
+}
+
+// The text that the parts make, one after another.
 fn spelled(heap: Global, parts: &[Part]) -> Result<Vec<u8>, AllocError> {
     let mut text = Vec::new(heap);
     for part in parts {
@@ -38,19 +45,14 @@ fn spelled(heap: Global, parts: &[Part]) -> Result<Vec<u8>, AllocError> {
             Byte(byte) => text.push(byte)?,
             Number(number) => push_number(&mut text, number)?,
             Zeros(count) => push_zeros(&mut text, count)?,
-            Counted(count) => {
-                push_number(&mut text, count)?;
-                push_zeros(&mut text, count)?;
-            }
+            Counted(count) => push_counted(&mut text, count)?,
             Mailbox => {
                 push_number(&mut text, 0)?;
-                push_number(&mut text, 1)?;
-                text.push(0)?;
+                push_counted(&mut text, 1)?;
             }
             OneRule(actions) => {
                 push_number(&mut text, 0)?;
-                push_number(&mut text, 1)?;
-                text.push(0)?;
+                push_counted(&mut text, 1)?;
                 push_number(&mut text, actions)?;
             }
         }
@@ -60,12 +62,11 @@ fn spelled(heap: Global, parts: &[Part]) -> Result<Vec<u8>, AllocError> {
 
 // Each row is a text, and whether it is a command.
 fn check_rows<const N: usize>(
-    rt: &impl Abort,
-    heap: Global,
+    rt: &(impl Abort + AllocGlobal),
     rows: &[([Part; N], bool)],
 ) -> Result<(), Fail> {
     for (parts, said) in rows {
-        let text = spelled(heap, parts)?;
+        let text = spelled(rt.alloc(), parts)?;
         assert_eq!(rt; read(&text).is_some(), *said);
     }
     Ok(())
@@ -73,11 +74,9 @@ fn check_rows<const N: usize>(
 
 #[test]
 fn people_boxes_and_letters(rt: HostRuntime) -> Result<(), Fail> {
-    let heap = rt.alloc();
-    check_rows(&rt, heap, &[([], false)])?;
+    check_rows(&rt, &[([], false)])?;
     check_rows(
         &rt,
-        heap,
         &[
             ([Byte(0)], false),
             ([Byte(1)], false),
@@ -88,7 +87,6 @@ fn people_boxes_and_letters(rt: HostRuntime) -> Result<(), Fail> {
     // join: a name of 1 to 64 bytes, and nothing after it
     check_rows(
         &rt,
-        heap,
         &[
             ([Byte(1), Counted(1)], true),
             ([Byte(1), Counted(64)], true),
@@ -99,7 +97,6 @@ fn people_boxes_and_letters(rt: HostRuntime) -> Result<(), Fail> {
     )?;
     check_rows(
         &rt,
-        heap,
         &[
             ([Byte(1), Counted(64), Byte(0)], false),
             ([Byte(1), Number(2), Zeros(1)], false),
@@ -108,7 +105,6 @@ fn people_boxes_and_letters(rt: HostRuntime) -> Result<(), Fail> {
     // hand in: a house below 16, a person below 64, and a letter of up to 65,000 bytes
     check_rows(
         &rt,
-        heap,
         &[
             ([Byte(2), Number(15), Number(63), Counted(0)], true),
             ([Byte(2), Number(0), Number(0), Counted(65_000)], true),
@@ -120,7 +116,6 @@ fn people_boxes_and_letters(rt: HostRuntime) -> Result<(), Fail> {
     // boxes of a person, and a push to a house
     check_rows(
         &rt,
-        heap,
         &[
             ([Byte(3), Number(63)], true),
             ([Byte(3), Number(64)], false),
@@ -132,7 +127,6 @@ fn people_boxes_and_letters(rt: HostRuntime) -> Result<(), Fail> {
     // a new box, a box dropped, a box cleared
     check_rows(
         &rt,
-        heap,
         &[
             ([Byte(4), Number(63), Counted(64)], true),
             ([Byte(4), Number(64), Counted(64)], false),
@@ -146,11 +140,9 @@ fn people_boxes_and_letters(rt: HostRuntime) -> Result<(), Fail> {
 
 #[test]
 fn letters_in_boxes(rt: HostRuntime) -> Result<(), Fail> {
-    let heap = rt.alloc();
     // list: 1 to 1,000 letters from any number on
     check_rows(
         &rt,
-        heap,
         &[
             ([Byte(6), Mailbox, Number(u64::MAX), Number(1)], true),
             ([Byte(6), Mailbox, Number(0), Number(1_000)], true),
@@ -161,7 +153,6 @@ fn letters_in_boxes(rt: HostRuntime) -> Result<(), Fail> {
     // get: up to 65,536 bytes
     check_rows(
         &rt,
-        heap,
         &[
             ([Byte(7), Mailbox, Zeros(16), Number(65_536)], true),
             ([Byte(7), Mailbox, Zeros(16), Number(0)], true),
@@ -171,7 +162,6 @@ fn letters_in_boxes(rt: HostRuntime) -> Result<(), Fail> {
     // set a mark below 8, on or off
     check_rows(
         &rt,
-        heap,
         &[
             ([Byte(8), Mailbox, Number(1), Byte(7), Byte(1)], true),
             ([Byte(8), Mailbox, Number(1), Byte(0), Byte(0)], true),
@@ -182,7 +172,6 @@ fn letters_in_boxes(rt: HostRuntime) -> Result<(), Fail> {
     // to another box
     check_rows(
         &rt,
-        heap,
         &[
             ([Byte(9), Mailbox, Number(1), Counted(64)], true),
             ([Byte(9), Mailbox, Number(1), Counted(65)], false),
@@ -192,11 +181,9 @@ fn letters_in_boxes(rt: HostRuntime) -> Result<(), Fail> {
 
 #[test]
 fn rules_of_people(rt: HostRuntime) -> Result<(), Fail> {
-    let heap = rt.alloc();
     // up to 32 rules: "always", and no action
     check_rows(
         &rt,
-        heap,
         &[
             ([Byte(11), Number(0), Number(0), Zeros(0)], true),
             ([Byte(11), Number(0), Number(32), Zeros(32 * 9)], true),
@@ -207,7 +194,6 @@ fn rules_of_people(rt: HostRuntime) -> Result<(), Fail> {
     // up to 8 times "keep"
     check_rows(
         &rt,
-        heap,
         &[
             ([Byte(11), OneRule(8), Zeros(8)], true),
             ([Byte(11), OneRule(9), Zeros(9)], false),
@@ -217,7 +203,6 @@ fn rules_of_people(rt: HostRuntime) -> Result<(), Fail> {
     // one or two other actions
     check_rows(
         &rt,
-        heap,
         &[
             ([Byte(11), OneRule(1), Byte(1), Counted(64)], true),
             ([Byte(11), OneRule(1), Byte(1), Counted(65)], false),
@@ -230,7 +215,6 @@ fn rules_of_people(rt: HostRuntime) -> Result<(), Fail> {
     // on to somebody at a house
     check_rows(
         &rt,
-        heap,
         &[
             (
                 [Byte(11), OneRule(1), Byte(3), Number(15), Number(63)],
@@ -250,10 +234,8 @@ fn rules_of_people(rt: HostRuntime) -> Result<(), Fail> {
 
 #[test]
 fn tests_of_letters(rt: HostRuntime) -> Result<(), Fail> {
-    let heap = rt.alloc();
     check_rows(
         &rt,
-        heap,
         &[
             ([Byte(12), Mailbox, Byte(0), Zeros(0)], true),
             ([Byte(12), Mailbox, Byte(0), Zeros(1)], false),
@@ -265,7 +247,6 @@ fn tests_of_letters(rt: HostRuntime) -> Result<(), Fail> {
     )?;
     check_rows(
         &rt,
-        heap,
         &[
             ([Byte(12), Mailbox, Byte(1), Counted(64), Counted(64)], true),
             ([Byte(12), Mailbox, Byte(2), Counted(1), Counted(65)], false),
@@ -276,7 +257,6 @@ fn tests_of_letters(rt: HostRuntime) -> Result<(), Fail> {
     // four deep, and five: "neither" over "always", and over itself
     check_rows(
         &rt,
-        heap,
         &[
             (
                 [Byte(12), Mailbox, Byte(5), Byte(5), Byte(5), Byte(0)],
@@ -290,7 +270,6 @@ fn tests_of_letters(rt: HostRuntime) -> Result<(), Fail> {
     )?;
     check_rows(
         &rt,
-        heap,
         &[(
             [
                 Byte(12),
@@ -307,21 +286,61 @@ fn tests_of_letters(rt: HostRuntime) -> Result<(), Fail> {
 }
 
 #[test]
-fn parts_come_out(rt: HostRuntime) -> Result<(), Fail> {
+fn parts_come_out(rt: HostRuntime) {
     let text = b"\x08\0\0\0\0\0\0\0\x02\0\0\0\0\0\0\0\x03box\0\0\0\0\0\0\x01\x05\x07\x01";
-    let Some(
-        Command::SetMark {
-            person,
-            mailbox,
-            number,
-            mark,
-            on,
-        },
-    ) = read(text)
-    else {
-        return Err(Fail::new("no mark is set"));
+    assert_eq!(rt;
+        read(text),
+        Some(Command::SetMark {
+            person: 2,
+            mailbox: b"box".as_slice(),
+            number: 261,
+            mark: 7,
+            on: true,
+        })
+    );
+}
+
+#[test]
+fn kinds_have_bytes_and_words(rt: HostRuntime) -> Result<(), Fail> {
+    let heap = rt.alloc();
+    for (byte, word) in [
+        (1, "join"),
+        (2, "hand in"),
+        (3, "boxes"),
+        (4, "new box"),
+        (5, "drop box"),
+        (6, "list"),
+        (7, "get"),
+        (8, "mark"),
+        (9, "to box"),
+        (10, "clear"),
+        (11, "rules"),
+        (12, "find"),
+        (13, "push"),
+    ] {
+        let Ok(kind) = Kind::try_from(byte) else {
+            return Err(Fail::new("no kind has this byte"));
+        };
+        assert_eq!(rt; kind as u8, byte);
+        assert_eq!(rt; format!(in heap; "{kind}")?.as_str(), word);
+    }
+    assert_eq!(rt; Kind::try_from(0), Err(UnknownKind(0)));
+    assert_eq!(rt; Kind::try_from(14), Err(UnknownKind(14)));
+    Ok(())
+}
+
+#[test]
+fn commands_have_kinds(rt: HostRuntime) -> Result<(), Fail> {
+    let heap = rt.alloc();
+    let text = spelled(heap, &[Byte(13), Number(15)])?;
+    let Some(command) = read(&text) else {
+        return Err(Fail::new("no push is read"));
     };
-    assert_eq!(rt; (person, number, mark, on), (2, 261, 7, true));
-    assert_eq!(rt; mailbox, b"box".as_slice());
+    assert_eq!(rt; command.kind(), Kind::Push);
+    // a command that holds its own bytes
+    let command = Command::Join {
+        name: spelled(heap, &[Zeros(3)])?,
+    };
+    assert_eq!(rt; command.kind(), Kind::Join);
     Ok(())
 }

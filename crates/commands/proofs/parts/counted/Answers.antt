@@ -1,12 +1,8 @@
 -- `counted` meets its contract.
-use Rattle.std.proofs.Common.{sym, rules}
+use Rattle.std.proofs.Common.{sym}
 use Rattle.commands.specs.Reader.{read_counted}
 use Rattle.commands.proofs.Laws.{split_first_bytes}
 use Rattle.commands.proofs.parts.counted.Goals as goal
-
-pub returns-in_err-count : goal.returns-in_err-count
-unfolding read_counted
-returns-in_err-count c = search rules
 
 pub returns : goal.returns
 unfolding read_counted

@@ -1,7 +1,7 @@
 -- `to_box` meets its contract.
 use Rattle.std.proofs.Common.{sym, refl}
 use Rattle.commands.proofs.Meanings.{complete_answers}
-use Rattle.commands.proofs.kinds.to_box.Goals as goal
+use Rattle.commands.proofs.texts.to_box.Goals as goal
 
 pub returns : goal.returns
 returns c =

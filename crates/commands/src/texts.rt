@@ -1,40 +1,14 @@
-// The kinds of commands: the first byte says which one the rest of the text spells.
-ghost use Rattle.std.specs.Prelude.{◌≡◌, ◌&&◌, nat_le};
+// Whole texts: the first byte says which kind of command the rest spells.
+ghost use Rattle.std.specs.Prelude.{◌≡◌, ◌&&◌, nat_le, MatchOption};
+ghost use Rattle.std.specs.Option.{ForSome};
 ghost use Rattle.commands.specs.Lent.{and_rest, both_and_rest};
 ghost use Rattle.commands.specs.Meaning.{Answers};
 ghost use Rattle.commands.specs.Reader.{no_more, whole, only, read_number, read_mailbox};
-ghost use Rattle.commands.specs.Reader.{read_join, read_hand_in, read_boxes, read_new_box, read_drop_box, read_list, read_get};
-ghost use Rattle.commands.specs.Reader.{read_set_mark, read_to_box, read_clear, read_rule_set, read_find, read_push, command_of};
+ghost use Rattle.commands.specs.Reader.{read_hand_in, read_list, read_get};
+ghost use Rattle.commands.specs.Reader.{read_set_mark, read_to_box, read_rule_set, read_find, command_of};
 
 use crate::rules::{DEEPEST_TEST, after_rules, after_test};
-use crate::{Command, parts};
-
-// The first byte of a command.
-const JOIN: u8 = 1;
-
-const HAND_IN: u8 = 2;
-
-const BOXES: u8 = 3;
-
-const NEW_BOX: u8 = 4;
-
-const DROP_BOX: u8 = 5;
-
-const LIST: u8 = 6;
-
-const GET: u8 = 7;
-
-const SET_MARK: u8 = 8;
-
-const TO_BOX: u8 = 9;
-
-const CLEAR: u8 = 10;
-
-const RULES: u8 = 11;
-
-const FIND: u8 = 12;
-
-const PUSH: u8 = 13;
+use crate::{Command, Kind, parts};
 
 // How many letters may be listed, and how many bytes may be got, by one command.
 const MOST_LISTED: u64 = 1_000;
@@ -42,10 +16,22 @@ const MOST_LISTED: u64 = 1_000;
 const MOST_BYTES: u64 = 65_536;
 
 // The command, if nothing follows it.
-fn complete<'a>(command: Command<'a>, rest: &[u8]) -> Option<Command<'a>>
+fn complete<'a>(command: Command<&'a [u8]>, rest: &[u8]) -> Option<Command<&'a [u8]>>
     ensures { result ≡ no_more command.entry rest.now }
 {
-    if rest.is_empty() { Some(command) } else { None }
+    rest.is_empty().then_some(command)
+}
+
+// The command that is made of what was read, if nothing follows it.
+fn whole<'a, T, F: FnOnce(T) -> Command<&'a [u8]>>(
+    read: Option<(T, &'a [u8])>,
+    make: F,
+) -> Option<Command<&'a [u8]>>
+    requires { ForSome read (λ p. F.pre make p.0) }
+    ensures { MatchOption read.entry (result ≡ None) (λ p. (c : _) × F.post make p.0 c × (result ≡ no_more c p.1.now)) }
+{
+    let (value, rest) = read?;
+    complete(make(value), rest)
 }
 
 // A person, and a box of theirs by its name.
@@ -61,22 +47,11 @@ fn mailbox(bytes: &[u8]) -> Option<((u64, &[u8]), &[u8])>
 fn list_count(bytes: &[u8]) -> Option<(u64, &[u8])>
     ensures { and_rest result ≡ only (λ k. nat_le 1 k && nat_le k 1000) read_number bytes.now }
 {
-    let (count, rest) = parts::number(bytes)?;
-    if 1 <= count && count <= MOST_LISTED {
-        Some((count, rest))
-    } else {
-        None
-    }
+    parts::number(bytes).filter(|(count, _)| (1..=MOST_LISTED).contains(count))
 }
 
-fn join(bytes: &[u8]) -> Option<Command<'_>>
-    ensures { Answers result (whole read_join bytes.now) }
-{
-    let (name, rest) = parts::name(bytes)?;
-    complete(Command::Join { name }, rest)
-}
-
-fn hand_in(bytes: &[u8]) -> Option<Command<'_>>
+// A house, a person there, and the letter for them.
+fn hand_in(bytes: &[u8]) -> Option<Command<&[u8]>>
     ensures { Answers result (whole read_hand_in bytes.now) }
 {
     let (house, rest) = parts::house(bytes)?;
@@ -92,28 +67,8 @@ fn hand_in(bytes: &[u8]) -> Option<Command<'_>>
     )
 }
 
-fn boxes(bytes: &[u8]) -> Option<Command<'_>>
-    ensures { Answers result (whole read_boxes bytes.now) }
-{
-    let (person, rest) = parts::person(bytes)?;
-    complete(Command::Boxes { person }, rest)
-}
-
-fn new_box(bytes: &[u8]) -> Option<Command<'_>>
-    ensures { Answers result (whole read_new_box bytes.now) }
-{
-    let ((person, name), rest) = mailbox(bytes)?;
-    complete(Command::NewBox { person, name }, rest)
-}
-
-fn drop_box(bytes: &[u8]) -> Option<Command<'_>>
-    ensures { Answers result (whole read_drop_box bytes.now) }
-{
-    let ((person, name), rest) = mailbox(bytes)?;
-    complete(Command::DropBox { person, name }, rest)
-}
-
-fn list(bytes: &[u8]) -> Option<Command<'_>>
+// A box, from which letter on, and how many.
+fn list(bytes: &[u8]) -> Option<Command<&[u8]>>
     ensures { Answers result (whole read_list bytes.now) }
 {
     let ((person, mailbox), rest) = mailbox(bytes)?;
@@ -130,7 +85,8 @@ fn list(bytes: &[u8]) -> Option<Command<'_>>
     )
 }
 
-fn get(bytes: &[u8]) -> Option<Command<'_>>
+// A letter in a box, from which byte on, and how many.
+fn get(bytes: &[u8]) -> Option<Command<&[u8]>>
     ensures { Answers result (whole read_get bytes.now) }
 {
     let ((person, mailbox), rest) = mailbox(bytes)?;
@@ -149,7 +105,8 @@ fn get(bytes: &[u8]) -> Option<Command<'_>>
     )
 }
 
-fn set_mark(bytes: &[u8]) -> Option<Command<'_>>
+// A letter in a box, a mark, and whether it is to be there.
+fn set_mark(bytes: &[u8]) -> Option<Command<&[u8]>>
     ensures { Answers result (whole read_set_mark bytes.now) }
 {
     let ((person, mailbox), rest) = mailbox(bytes)?;
@@ -168,7 +125,8 @@ fn set_mark(bytes: &[u8]) -> Option<Command<'_>>
     )
 }
 
-fn to_box(bytes: &[u8]) -> Option<Command<'_>>
+// A letter in a box, and the box of the same person that it goes to.
+fn to_box(bytes: &[u8]) -> Option<Command<&[u8]>>
     ensures { Answers result (whole read_to_box bytes.now) }
 {
     let ((person, mailbox), rest) = mailbox(bytes)?;
@@ -185,15 +143,8 @@ fn to_box(bytes: &[u8]) -> Option<Command<'_>>
     )
 }
 
-fn clear(bytes: &[u8]) -> Option<Command<'_>>
-    ensures { Answers result (whole read_clear bytes.now) }
-{
-    let ((person, mailbox), rest) = mailbox(bytes)?;
-    complete(Command::Clear { person, mailbox }, rest)
-}
-
 // The rules stand behind the person, up to the end of the text.
-fn rule_set(bytes: &[u8]) -> Option<Command<'_>>
+fn rule_set(bytes: &[u8]) -> Option<Command<&[u8]>>
     ensures { Answers result (whole read_rule_set bytes.now) }
 {
     let (person, rules) = parts::person(bytes)?;
@@ -201,7 +152,7 @@ fn rule_set(bytes: &[u8]) -> Option<Command<'_>>
 }
 
 // The test stands behind the box, up to the end of the text.
-fn find(bytes: &[u8]) -> Option<Command<'_>>
+fn find(bytes: &[u8]) -> Option<Command<&[u8]>>
     ensures { Answers result (whole read_find bytes.now) }
 {
     let ((person, mailbox), test) = mailbox(bytes)?;
@@ -215,32 +166,34 @@ fn find(bytes: &[u8]) -> Option<Command<'_>>
     )
 }
 
-fn push(bytes: &[u8]) -> Option<Command<'_>>
-    ensures { Answers result (whole read_push bytes.now) }
-{
-    let (house, rest) = parts::house(bytes)?;
-    complete(Command::Push { house }, rest)
-}
-
 // Any command, if all of the text spells it.
-pub fn command(text: &[u8]) -> Option<Command<'_>>
+#[tactic(auto, unfolding(crate::specs::Reader::command_of, crate::specs::Reader::read_command, crate::specs::Reader::by_kind))]
+pub fn command(text: &[u8]) -> Option<Command<&[u8]>>
     ensures { Answers result (command_of text.now) }
 {
-    let (kind, bytes) = text.split_first()?;
-    match *kind {
-        JOIN => join(bytes),
-        HAND_IN => hand_in(bytes),
-        BOXES => boxes(bytes),
-        NEW_BOX => new_box(bytes),
-        DROP_BOX => drop_box(bytes),
-        LIST => list(bytes),
-        GET => get(bytes),
-        SET_MARK => set_mark(bytes),
-        TO_BOX => to_box(bytes),
-        CLEAR => clear(bytes),
-        RULES => rule_set(bytes),
-        FIND => find(bytes),
-        PUSH => push(bytes),
-        _ => None,
+    let (byte, bytes) = text.split_first()?;
+    match Kind::try_from(*byte).ok()? {
+        Kind::Join => whole(parts::name(bytes), |name| Command::Join { name }),
+        Kind::HandIn => hand_in(bytes),
+        Kind::Boxes => whole(parts::person(bytes), |person| Command::Boxes { person }),
+        Kind::NewBox => whole(
+            mailbox(bytes),
+            |(person, name)| Command::NewBox { person, name },
+        ),
+        Kind::DropBox => whole(
+            mailbox(bytes),
+            |(person, name)| Command::DropBox { person, name },
+        ),
+        Kind::List => list(bytes),
+        Kind::Get => get(bytes),
+        Kind::SetMark => set_mark(bytes),
+        Kind::ToBox => to_box(bytes),
+        Kind::Clear => whole(
+            mailbox(bytes),
+            |(person, mailbox)| Command::Clear { person, mailbox },
+        ),
+        Kind::Rules => rule_set(bytes),
+        Kind::Find => find(bytes),
+        Kind::Push => whole(parts::house(bytes), |house| Command::Push { house }),
     }
 }

@@ -1,7 +1,7 @@
 -- `set_mark` meets its contract.
 use Rattle.std.proofs.Common.{sym, refl}
 use Rattle.commands.proofs.Meanings.{complete_answers}
-use Rattle.commands.proofs.kinds.set_mark.Goals as goal
+use Rattle.commands.proofs.texts.set_mark.Goals as goal
 
 pub returns : goal.returns
 returns c =

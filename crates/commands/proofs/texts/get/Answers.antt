@@ -1,7 +1,7 @@
 -- `get` meets its contract.
 use Rattle.std.proofs.Common.{sym, refl}
 use Rattle.commands.proofs.Meanings.{complete_answers}
-use Rattle.commands.proofs.kinds.get.Goals as goal
+use Rattle.commands.proofs.texts.get.Goals as goal
 
 pub returns : goal.returns
 returns c =

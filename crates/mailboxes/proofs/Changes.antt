@@ -41,7 +41,7 @@ module _ (boxes : ℕ) (dir dir' : List ℕ) (o : ℕ) (nm : List ℕ) (named : 
       ∙ each_append (box_of dir') (those (owns dir' a) (count_up 0 boxes)) (those (owns dir' a) (boxes ∷ []))
       ∙ ap (λ l. l ++ each (box_of dir') (those (owns dir' a) (boxes ∷ [])))
       (each_those_alike (box_of dir') (box_of dir) (owns dir' a) (owns dir a) boxes 0 (λ i _ l.
-      let e = old i (omega arith) in (box_alike dir dir' i e, ap (λ b. eqb b a) (owner_alike dir dir' (box_place i) e))))
+      let e = old i (omega arith) in (box_alike dir dir' i e, ap (λ b. eqb b a) (owner_alike dir dir' (box_place i) (box_place i) e))))
       ∙ ap (λ l. boxes_of boxes dir a ++ l) (last_box a)
 
   -- nobody else gets a box, and the owner gets just this one
@@ -122,7 +122,7 @@ module _ (people boxes : ℕ) (dir : List ℕ) (nm : List ℕ) (few : people < 6
 person_alike : (boxes boxes' : ℕ) (dir dir' : List ℕ) (a : ℕ) → part dir' (person_place a) 12 ≡ part dir (person_place a) 12 → boxes_of boxes' dir' a ≡ boxes_of boxes dir a →
     person_of boxes' dir' a ≡ person_of boxes dir a
 unfolding person_of
-person_alike boxes boxes' dir dir' a e b = rw (name_alike dir dir' (person_place a) e, b)
+person_alike boxes boxes' dir dir' a e b = rw (name_alike dir dir' (person_place a) (person_place a) e, b)
 
 module _ (people boxes : ℕ) (dir : List ℕ) (nm : List ℕ) (few : people < 64) (room : 864 + 12 * (boxes + 1) ≤ length dir) (named : a_name nm ≡ true) where
   owners_there : BoxesNamed people boxes dir → (i : ℕ) → i < boxes → owner_at dir (box_place i) < people
@@ -166,14 +166,14 @@ module _ (people boxes : ℕ) (dir : List ℕ) (nm : List ℕ) (few : people < 6
       | inr e ↦
           let l' : a < people = omega arith in
           let (n, ok, kept) = p a l' in
-          (n, ok, front_alike dir (with_person people boxes dir nm) (person_place a) (with_person_person people boxes dir nm few room a l') ∙ kept)
+          (n, ok, front_alike dir (with_person people boxes dir nm) (person_place a) (person_place a) (with_person_person people boxes dir nm few room a l') ∙ kept)
     ];
     box_named = λ i l. elim (cases_eq i boxes) [
       | inl e ↦ (people, in_box, omega arith, refl, rw e (box_front (with_person people boxes dir nm) (box_place boxes) people in_box (with_person_box people boxes dir nm few room)))
       | inr e ↦
           let l' : i < boxes = omega arith in
           let (a, n, there, ok, kept) = b i l' in
-          (a, n, omega arith, ok, front_alike dir (with_person people boxes dir nm) (box_place i) (with_person_old people boxes dir nm few room i l') ∙ kept)
+          (a, n, omega arith, ok, front_alike dir (with_person people boxes dir nm) (box_place i) (box_place i) (with_person_old people boxes dir nm few room i l') ∙ kept)
     ];
   }
 
@@ -225,7 +225,7 @@ module _ (people boxes : ℕ) (dir : List ℕ) (sound : Sound people boxes dir) 
   unfolding person_of
   person_owner =
       rw (
-        name_alike dir (with_box boxes dir a nm) (person_place a) (with_box_person boxes dir a nm room a (omega (arith, sound.people_few))),
+        name_alike dir (with_box boxes dir a nm) (person_place a) (person_place a) (with_box_person boxes dir a nm room a (omega (arith, sound.people_few))),
         boxes_owner boxes dir (with_box boxes dir a nm) a nm named (with_box_old boxes dir a nm room) (with_box_new boxes dir a nm room),
       )
 
@@ -254,13 +254,13 @@ module _ (people boxes : ℕ) (dir : List ℕ) (sound : Sound people boxes dir) 
     boxes_fit = omega (arith, length_with_box boxes dir a nm room);
     person_named = λ b l.
         let (n, ok, kept) = sound.person_named b l in
-        (n, ok, front_alike dir (with_box boxes dir a nm) (person_place b) (with_box_person boxes dir a nm room b (omega (arith, sound.people_few))) ∙ kept);
+        (n, ok, front_alike dir (with_box boxes dir a nm) (person_place b) (person_place b) (with_box_person boxes dir a nm room b (omega (arith, sound.people_few))) ∙ kept);
     box_named = λ i l. elim (cases_eq i boxes) [
       | inl e ↦ (a, nm, there, named, rw e (box_front (with_box boxes dir a nm) (box_place boxes) a nm (with_box_new boxes dir a nm room)))
       | inr e ↦
           let l' : i < boxes = omega arith in
           let (b, n, here, ok, kept) = sound.box_named i l' in
-          (b, n, here, ok, front_alike dir (with_box boxes dir a nm) (box_place i) (with_box_old boxes dir a nm room i l') ∙ kept)
+          (b, n, here, ok, front_alike dir (with_box boxes dir a nm) (box_place i) (box_place i) (with_box_old boxes dir a nm room i l') ∙ kept)
     ];
   }
 

@@ -1,6 +1,5 @@
 pub mod Places
 pub mod Names
-pub mod Compare
 pub mod Writes
 pub mod Room
 pub mod Rows

@@ -1,14 +1,18 @@
 -- A name that is kept in a record comes back from it, and no two names are kept alike.
-use Rattle.std.proofs.Common.{◌≡◌, ℕ, zero, suc, ◌+◌, ◌-◌, ◌*◌, ◌%◌, ◌≤◌, Bool, true, false, ◌&&◌, eqb, ltb, leb, List, [], ◌∷◌, ◌++◌, length, get_or, take, drop, sym, refl, ap, ◌∙◌, arith, length-append}
+use Rattle.std.proofs.Common.{min, inl, inr, take_all, append-nil, ◌≡◌, ℕ, zero, suc, ◌+◌, ◌-◌, ◌*◌, ◌%◌, ◌≤◌, Bool, true, false, ◌&&◌, eqb, ltb, leb, List, [], ◌∷◌, ◌++◌, length, get_or, take, drop, sym, refl, ap, ◌∙◌, arith, length-append}
 use mathlib.Core.Bool.{false≢true}
-use Rattle.std.proofs.lemmas.Bool.{and_parts, leb-true, eqb-true, eq-eqb}
-use Rattle.std.proofs.lemmas.List.{take_at, get_or-take, get_or-drop, drop-take, drop-drop}
+use lib.Seq.{take-append-le}
+use lib.Pointwise.{pointwise}
+use Rattle.std.proofs.lemmas.Bool.{cases_lt, and_parts, leb-true, eqb-true, eq-eqb}
+use Rattle.std.proofs.lemmas.List.{drop_all, take_at, get_or-take, get_or-drop, drop-take, drop-drop}
 use Rattle.model.specs.Mail.{same, all_bytes}
 use Rattle.model.specs.House.{a_name}
 use Rattle.model.specs.Device.{zeros}
-use Rattle.pages.specs.Words.{bytes_of, part}
+use Rattle.pages.specs.Words.{words_in, bytes_of, part}
 use Rattle.mailboxes.specs.Directory.{name_words, name_record, owner_at, name_at, named}
-use Rattle.pages.proofs.Words.{every_append, bytes_of_words_in, length_zeros}
+use Rattle.pages.proofs.Words.{bytes_of_words_in, words_in_take, length_zeros, drop_zeros}
+use Rattle.model.proofs.Boxes.{same_true, same_refl}
+use Rattle.model.proofs.Places.{every_append}
 
 -- equal tests
 both_true : (a b : Bool) → (a ≡ true → b ≡ true) → (b ≡ true → a ≡ true) → a ≡ b
@@ -16,21 +20,12 @@ both_true true b f g = sym (f refl)
 both_true false true f g = g refl
 both_true false false f g = refl
 
-pub same_refl : (xs : List ℕ) → same xs xs ≡ true
+pub same_pointwise : (xs ys : List ℕ) → pointwise eqb xs ys ≡ same xs ys
 unfolding same
-same_refl [] = refl
-same_refl (x ∷ xs) = rw (eq-eqb x x refl) (same_refl xs)
-
-pub same_equal : (xs ys : List ℕ) → same xs ys ≡ true → xs ≡ ys
-unfolding same
-same_equal [] [] e = refl
-same_equal [] (y ∷ ys) e = absurd (false≢true e)
-same_equal (x ∷ xs) [] e = absurd (false≢true e)
-same_equal (x ∷ xs) (y ∷ ys) e =
-    let both = and_parts (eqb x y) (same xs ys) e in
-    let head : x ≡ y = eqb-true x y both.0 in
-    let tail : xs ≡ ys = same_equal xs ys both.1 in
-    cc
+same_pointwise [] [] = refl
+same_pointwise [] (y ∷ ys) = refl
+same_pointwise (x ∷ xs) [] = refl
+same_pointwise (x ∷ xs) (y ∷ ys) = ap (λ t. eqb x y && t) (same_pointwise xs ys)
 
 pub all_bytes_zeros : (n : ℕ) → all_bytes (zeros n) ≡ true
 unfolding zeros
@@ -46,6 +41,23 @@ name_short nm h = leb-true (length nm) 64 (and_parts (leb 1 (length nm)) (leb (l
 
 pub name_bytes : (nm : List ℕ) → a_name nm ≡ true → all_bytes nm ≡ true
 name_bytes nm h = (and_parts (leb 1 (length nm) && leb (length nm) 64) (all_bytes nm) h).1
+
+-- the front of a name, and zeros up to 64 bytes
+pub name_padded : (nm : List ℕ) (k : ℕ) → k ≡ min (length nm) 64 → take k nm ++ drop k (zeros 64) ≡ take 64 (nm ++ zeros (64 - length nm))
+name_padded nm k e =
+    elim (cases_lt (length nm) 64) [
+      | inl l ↦
+          let whole : k ≡ length nm = omega arith in
+          let long : length (nm ++ zeros (64 - length nm)) ≤ 64 = omega (arith, length-append nm (zeros (64 - length nm)), length_zeros (64 - length nm)) in
+          rw (whole, take_all (length nm) nm (omega arith), drop_zeros (length nm) 64, take_all 64 (nm ++ zeros (64 - length nm)) long)
+      | inr l ↦
+          let front : k ≡ 64 = omega arith in
+          rw (front, drop_all 64 (zeros 64) (omega (arith, length_zeros 64)), take-append-le 64 nm (zeros (64 - length nm)) l) (append-nil (take 64 nm))
+    ]
+
+pub name_words_front : (nm bs : List ℕ) → bs ≡ take 64 (nm ++ zeros (64 - length nm)) → words_in 8 bs ≡ name_words nm
+unfolding name_words
+name_words_front nm bs e = ap (words_in 8) e ∙ words_in_take 8 64 (nm ++ zeros (64 - length nm)) (omega arith)
 
 pub name_words_bytes : (nm : List ℕ) → length nm ≤ 64 → all_bytes nm ≡ true → bytes_of (name_words nm) ≡ nm ++ zeros (64 - length nm)
 unfolding name_words
@@ -85,9 +97,9 @@ module _ (dir : List ℕ) (at o : ℕ) (nm : List ℕ) (short : length nm ≤ 64
       (same nm nm')
       (λ t. let both = and_parts (eqb (length nm) (length nm')) (same (name_words nm) (name_words nm')) t in
       let l : length nm ≡ length nm' = eqb-true (length nm) (length nm') both.0 in
-      let w : name_words nm ≡ name_words nm' = same_equal (name_words nm) (name_words nm') both.1 in
+      let w : name_words nm ≡ name_words nm' = same_true (name_words nm) (name_words nm') both.1 in
       let a = name_back nm short bytes in
       let b = name_back nm' short' bytes' in
       let e : nm ≡ nm' = cc in
       rw e (same_refl nm'))
-      (λ t. rw (same_equal nm nm' t, eq-eqb (length nm') (length nm') refl) (same_refl (name_words nm'))))
+      (λ t. rw (same_true nm nm' t, eq-eqb (length nm') (length nm') refl) (same_refl (name_words nm'))))

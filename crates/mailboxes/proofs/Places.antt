@@ -1,6 +1,16 @@
 -- Laws of the places that a directory counts through: count_up, first, and each, those and any over them.
-use Rattle.std.proofs.Common.{◌≡◌, ℕ, zero, suc, ◌+◌, ◌-◌, ◌<◌, ◌≤◌, Bool, true, false, ◌&&◌, List, [], ◌∷◌, ◌++◌, length, is_some, Some, None, Option, refl, ap, ◌∙◌, inl, inr, add-zero, add-one, arith, length-append}
+use Rattle.std.proofs.Common.{MatchOption, sym, ◌≡◌, ℕ, zero, suc, ◌+◌, ◌-◌, ◌<◌, ◌≤◌, Bool, true, false, ◌&&◌, List, [], ◌∷◌, ◌++◌, length, is_some, Some, None, Option, refl, ap, ◌∙◌, inl, inr, add-zero, add-one, arith}
 use Rattle.std.proofs.lemmas.Bool.{cases_Bool, cases_eq}
+use Rattle.std.specs.List.{filter, range_with_len}
+use denote.Param.Members.{Mut}
+use denote.Ref.{Bor}
+use Rattle.std.specs.Bool.{⊤}
+use Rattle.std.specs.Fn.{CalledAt}
+use Rattle.std.specs.Iterator.{YieldsThen}
+use Rattle.std.specs.List.{FoldsTo}
+use Rattle.std.specs.declared.ops.Range.{Range}
+use Rattle.std.proofs.iter.Yields.{nat_range_steps}
+use Rattle.std.proofs.lemmas.Iterator.{first_from_Range}
 use Rattle.model.specs.Mail.{pick, or, any, each, those}
 use Rattle.mailboxes.specs.Directory.{count_up, first}
 
@@ -136,6 +146,22 @@ first_is p (suc k) from i f =
           }))
     ]
 
+-- what a search through the places finds
+first_found : (p : ℕ → Bool) (k from end : ℕ) (r : Option ℕ) → end - from ≡ k →
+    MatchOption r ((i : ℕ) → from ≤ i → i < end → p i ≡ false)
+    (λ i. (from ≤ i) × (i < end) × (p i ≡ true) × ((j : ℕ) → from ≤ j → j < i → p j ≡ false)) →
+    r ≡ first p from k
+first_found p k from end None e h = sym (first_none p k from (λ i a b. h i a (omega arith)))
+first_found p k from end (Some i) e h = sym (first_is p k from i (record { not_before = h.0; not_past = omega arith; passes = h.2; none_earlier = h.3 }))
+
+-- `find` over a range, where the closure computes a test
+pub found_in_range : {F : Type 0} {g : Mut F (Bor ℕ × Unit {0}) Bool} (p : ℕ → Bool) (n : ℕ) (s u : Range ℕ) (f : F) (r : Option ℕ) → s.end - s.start ≡ n →
+    (xs : List ℕ) × (j : F) × YieldsThen nat_range_steps s xs r u × FoldsTo (λ h x q. CalledAt g h x false q) f xs j × MatchOption r ⊤ (λ x. (h : F) × CalledAt g j x true h) →
+    ((x : ℕ) (b : Bool) (q : F) → CalledAt g f x b q → (q ≡ f) × (b ≡ p x)) → r ≡ first p s.start n
+found_in_range p n s u f r e ran test =
+    first_found p n s.start s.end r e
+    (first_from_Range s u f r (λ x. p x ≡ true) (λ x. p x ≡ false) ran (λ x q k. sym (test x true q k).1) (λ x q k. ((test x false q k).0, sym (test x false q k).1)))
+
 -- those that pass: the first, and those behind it
 pub those_none : (p : ℕ → Bool) (k from : ℕ) → ((i : ℕ) → from ≤ i → i < from + k → p i ≡ false) → those p (count_up from k) ≡ []
 unfolding count_up
@@ -160,16 +186,9 @@ those_first p (suc k) from i e =
           rw t (those_first p k (suc from) i (rw t at e) ∙ ap (λ m. i ∷ those p (count_up (suc i) (m - suc i))) n)
     ]
 
--- counting through places one by one
-pub length_those : {A : Type 0} (p : A → Bool) (xs : List A) → length (those p xs) ≤ length xs
-length_those p [] = omega arith
-length_those p (x ∷ xs) = elim (cases_Bool (p x)) [ inl e ↦ rw e (omega (arith, length_those p xs)) | inr e ↦ rw e (omega (arith, length_those p xs)) ]
-
-those_push : (p : ℕ → Bool) (k : ℕ) → those p (count_up 0 (k + 1)) ≡ those p (count_up 0 k) ++ those p (k ∷ [])
-those_push p k = ap (λ n. those p (count_up 0 n)) (add-one k) ∙ ap (those p) (count_up_push k) ∙ those_append p (count_up 0 k) (k ∷ [])
-
-pub count_yes : (p : ℕ → Bool) (k : ℕ) → p k ≡ true → length (those p (count_up 0 (k + 1))) ≡ length (those p (count_up 0 k)) + 1
-count_yes p k e = ap length (those_push p k) ∙ length-append (those p (count_up 0 k)) (those p (k ∷ [])) ∙ rw e
-
-pub count_no : (p : ℕ → Bool) (k : ℕ) → p k ≡ false → length (those p (count_up 0 (k + 1))) ≡ length (those p (count_up 0 k))
-count_no p k e = ap length (those_push p k) ∙ length-append (those p (count_up 0 k)) (those p (k ∷ [])) ∙ rw e (add-zero (length (those p (count_up 0 k))))
+-- what a filter of the places leaves
+pub filter_counted : (p : ℕ → Bool) (k from : ℕ) → filter p (range_with_len from k) ≡ those p (count_up from k)
+unfolding count_up
+filter_counted p zero from = refl
+filter_counted p (suc k) from =
+    rw (add-one from) (elim (cases_Bool (p from)) [ inl e ↦ rw e (ap (λ l. from ∷ l) (filter_counted p k (suc from))) | inr e ↦ rw e (filter_counted p k (suc from)) ])

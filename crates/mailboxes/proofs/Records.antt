@@ -1,14 +1,15 @@
 -- Records of 12 words: how long they are, what is read from them, and that equal words are equal records.
-use Rattle.std.proofs.Common.{◌≡◌, ℕ, suc, ◌+◌, ◌-◌, ◌*◌, ◌/◌, ◌%◌, ◌^◌, ◌<◌, ◌≤◌, true, ltb, List, [], ◌∷◌, ◌++◌, length, get_or, take, drop, sym, refl, ap, ◌∙◌, arith, length-append, length-take}
+use Rattle.std.proofs.Common.{◌≡◌, ℕ, suc, ◌+◌, ◌-◌, ◌*◌, ◌/◌, ◌%◌, ◌^◌, ◌<◌, ◌≤◌, true, ltb, List, [], ◌∷◌, ◌++◌, length, get_or, take, drop, sym, refl, ap, ◌∙◌, add-zero, arith, length-append, length-take}
 use Rattle.std.proofs.lemmas.List.{take_at, take-take, get_or_at}
 use Rattle.model.specs.Mail.{with_length, eight}
 use Rattle.model.specs.House.{box_row, new_one, a_name}
 use Rattle.model.specs.Device.{zeros}
 use Rattle.model.specs.Run.{all_small}
 use Rattle.pages.specs.Words.{bytes_of, part}
-use Rattle.mailboxes.specs.Directory.{name_words, name_record, person_record, box_record, box_place, owner_at, name_at, box_of}
+use Rattle.mailboxes.specs.Directory.{name_words, name_record, person_record, box_record, box_place, owner_at, name_at, named, box_of}
 use Rattle.mailboxes.specs.Row.{row_at}
-use Rattle.pages.proofs.Words.{every_append, length_eight, length_bytes_of, length_words_in, get_d_part, part_of_part, all_small_cons, all_small_append, all_small_words_in}
+use Rattle.pages.proofs.Words.{length_eight, length_bytes_of, length_words_in, get_d_part, part_of_part, all_small_cons, all_small_append, all_small_words_in}
+use Rattle.model.proofs.Places.{every_append}
 use Rattle.mailboxes.proofs.Names.{all_bytes_zeros, name_short, name_bytes, name_kept, owner_kept}
 
 pub length_name_words : (nm : List ℕ) → length (name_words nm) ≡ 8
@@ -53,34 +54,55 @@ box_of_record dir i o nm h e =
 pub owner_of_record : (dir : List ℕ) (i o : ℕ) (nm : List ℕ) → a_name nm ≡ true → part dir (box_place i) 12 ≡ box_record o nm → owner_at dir (box_place i) ≡ o
 owner_of_record dir i o nm h e = owner_kept dir (box_place i) o nm (name_short nm h) (name_bytes nm h) (box_front dir (box_place i) o nm e)
 
--- two directories that have the same record
-module _ (dir dir' : List ℕ) (at : ℕ) (alike : part dir' at 12 ≡ part dir at 12) where
-  word_alike : (i : ℕ) → i < 12 → get_or dir' (at + i) 0 ≡ get_or dir (at + i) 0
-  word_alike i l = sym (get_d_part dir' at 12 i 0 l) ∙ ap (λ r. get_or r i 0) alike ∙ get_d_part dir at 12 i 0 l
+-- two directories that have the same record, each at a place of its own
+module _ (dir dir' : List ℕ) (at at' : ℕ) (alike : part dir' at' 12 ≡ part dir at 12) where
+  word_alike : (i : ℕ) → i < 12 → get_or dir' (at' + i) 0 ≡ get_or dir (at + i) 0
+  word_alike i l = sym (get_d_part dir' at' 12 i 0 l) ∙ ap (λ r. get_or r i 0) alike ∙ get_d_part dir at 12 i 0 l
 
-  part_alike : (b n : ℕ) → b + n ≤ 12 → part dir' (at + b) n ≡ part dir (at + b) n
-  part_alike b n l = sym (part_of_part dir' at 12 b n l) ∙ ap (λ r. part r b n) alike ∙ part_of_part dir at 12 b n l
+  part_alike : (b n : ℕ) → b + n ≤ 12 → part dir' (at' + b) n ≡ part dir (at + b) n
+  part_alike b n l = sym (part_of_part dir' at' 12 b n l) ∙ ap (λ r. part r b n) alike ∙ part_of_part dir at 12 b n l
 
-  first_alike : get_or dir' at 0 ≡ get_or dir at 0
-  first_alike = let e : at ≡ at + 0 = omega arith in ap (λ i. get_or dir' i 0) e ∙ word_alike 0 (omega arith) ∙ ap (λ i. get_or dir i 0) (sym e)
+  first_alike : get_or dir' at' 0 ≡ get_or dir at 0
+  first_alike = rw (add-zero at, add-zero at') at (word_alike 0 (omega arith))
 
-  pub front_alike : part dir' at 9 ≡ part dir at 9
-  front_alike = let e : at ≡ at + 0 = omega arith in ap (λ i. part dir' i 9) e ∙ part_alike 0 9 (omega arith) ∙ ap (λ i. part dir i 9) (sym e)
+  pub front_alike : part dir' at' 9 ≡ part dir at 9
+  front_alike = rw (add-zero at, add-zero at') at (part_alike 0 9 (omega arith))
 
-  pub owner_alike : owner_at dir' at ≡ owner_at dir at
+  pub owner_alike : owner_at dir' at' ≡ owner_at dir at
   unfolding owner_at
   owner_alike = ap (λ w. w / 256) first_alike
 
-  pub name_alike : name_at dir' at ≡ name_at dir at
+  pub name_alike : name_at dir' at' ≡ name_at dir at
   unfolding name_at
   name_alike = rw (first_alike, part_alike 1 8 (omega arith))
 
-  pub next_alike : get_or dir' (at + 9) 0 ≡ get_or dir (at + 9) 0
+  pub named_alike : (nm : List ℕ) → named dir' at' nm ≡ named dir at nm
+  unfolding named
+  named_alike nm = rw (first_alike, part_alike 1 8 (omega arith))
+
+  pub next_alike : get_or dir' (at' + 9) 0 ≡ get_or dir (at + 9) 0
   next_alike = word_alike 9 (omega arith)
+
+  pub row_alike : row_at dir' at' ≡ row_at dir at
+  row_alike = rw (name_alike, next_alike)
 
 pub box_alike : (dir dir' : List ℕ) (i : ℕ) → part dir' (box_place i) 12 ≡ part dir (box_place i) 12 → box_of dir' i ≡ box_of dir i
 unfolding box_of
-box_alike dir dir' i e = rw (name_alike dir dir' (box_place i) e, next_alike dir dir' (box_place i) e)
+box_alike dir dir' i e = rw (name_alike dir dir' (box_place i) (box_place i) e, next_alike dir dir' (box_place i) (box_place i) e)
+
+-- a record that was taken out of a directory
+module _ (dir : List ℕ) (at : ℕ) (rec : List ℕ) (taken : rec ≡ part dir at 12) where
+  whole : part rec 0 12 ≡ part dir at 12
+  whole = ap (take 12) taken ∙ take-take 12 12 (drop at dir) (omega arith)
+
+  pub owner_taken : owner_at rec 0 ≡ owner_at dir at
+  owner_taken = owner_alike dir rec at 0 whole
+
+  pub named_taken : (nm : List ℕ) → named rec 0 nm ≡ named dir at nm
+  named_taken = named_alike dir rec at 0 whole
+
+  pub row_taken : row_at rec 0 ≡ row_at dir at
+  row_taken = row_alike dir rec at 0 whole
 
 -- the row of a box
 pub box_row_of : (dir : List ℕ) (i : ℕ) → box_row (box_of dir i) ≡ row_at dir (box_place i)

@@ -65,7 +65,7 @@ person_weighs boxes dir a =
       added_up_same 256 (those (owns dir a) (count_up 0 boxes)),
     )
 
-ways_weigh : (n : ℕ) → added_up {A = Way} (λ v. 64 + added_up (λ o. 256 + length o.bytes) v.waiting) (so_many n (record { sent = 0; waiting = [] })) ≡ 64 * n
+pub ways_weigh : (n : ℕ) → added_up {A = Way} (λ v. 64 + added_up (λ o. 256 + length o.bytes) v.waiting) (so_many n (record { sent = 0; waiting = [] })) ≡ 64 * n
 unfolding so_many
 ways_weigh zero = refl
 ways_weigh (suc n) = omega (arith, ways_weigh n)

@@ -1,13 +1,13 @@
 // Reading a directory: people and boxes found by name, counted, and gone through, over lent words.
-ghost use Rattle.std.specs.Prelude.{◌≡◌, ◌≤◌, min, length};
+ghost use Rattle.std.specs.Prelude.{◌≡◌, ◌<◌, ◌≤◌, min, length};
 ghost use Rattle.model.specs.House.{box_row};
-ghost use Rattle.mailboxes.specs.Directory.{find_person, find_box, count_boxes, next_box, box_of};
+ghost use Rattle.pages.specs.Words.{part};
+ghost use Rattle.mailboxes.specs.Directory.{find_person, find_box, count_boxes, next_box, box_of, owns, person_place, box_place};
 ghost use Rattle.mailboxes.specs.Room.{people_room, box_room};
 ghost use Rattle.mailboxes.specs.Row.{row_fits, row_said, row_over};
 
-use crate::name::{has_name, owner_at};
+use crate::kept::Record;
 use crate::place::{box_place, box_room, people_room, person_place};
-use crate::row::put_row;
 
 // Lent words with so many people and boxes in them, which they have room for.
 #[derive(Clone, Copy)]
@@ -31,54 +31,60 @@ impl<'a> Directory<'a> {
         }
     }
 
+    // The record of a person.
+    fn person_record(&self, person: u64) -> Record<'a>
+        requires { person < self.now.people }
+        ensures { result.words.now ≡ part self.now.words.now (person_place person) 12 }
+    {
+        Record::at(self.words, person_place(person))
+    }
+
+    // The record of a box.
+    fn box_record(&self, index: u64) -> Record<'a>
+        requires { index < self.now.boxes }
+        ensures { result.words.now ≡ part self.now.words.now (box_place index) 12 }
+    {
+        Record::at(self.words, box_place(index))
+    }
+
+    // Whether a box is this person's.
+    fn owns(&self, person: u64, index: u64) -> bool
+        requires { index < self.now.boxes }
+        ensures { result ≡ owns self.now.words.now person index }
+    {
+        self.box_record(index).owner() == person
+    }
+
     // The person of this name.
     pub fn find_person(&self, name: &[u8]) -> Option<u64>
         ensures { result ≡ find_person self.now.people self.now.words.now name.now }
     {
-        for person in 0..self.people {
-            if has_name(self.words, person_place(person), name) {
-                return Some(person);
-            }
-        }
-        None
+        (0..self.people).find(|person| self.person_record(*person).has_name(name))
     }
 
     // The box of a person by this name.
     pub fn find_box(&self, person: u64, name: &[u8]) -> Option<u64>
         ensures { result ≡ find_box self.now.boxes self.now.words.now person name.now }
     {
-        for index in 0..self.boxes {
-            let at = box_place(index);
-            if owner_at(self.words, at) == person && has_name(self.words, at, name) {
-                return Some(index);
-            }
-        }
-        None
+        (0..self.boxes).find(|index| {
+            self.owns(person, *index) && self.box_record(*index).has_name(name)
+        })
     }
 
     // How many boxes a person has.
     pub fn count_boxes(&self, person: u64) -> u64
         ensures { result ≡ count_boxes self.now.boxes self.now.words.now person }
     {
-        let mut count = 0;
-        for index in 0..self.boxes {
-            if owner_at(self.words, box_place(index)) == person {
-                count += 1;
-            }
-        }
-        count
+        (0..self.boxes)
+            .filter(|index| self.owns(person, *index))
+            .count() as u64
     }
 
     // The next box of a person, from a place on.
     pub fn next_box(&self, person: u64, from: u64) -> Option<u64>
         ensures { result ≡ next_box self.now.boxes self.now.words.now person from }
     {
-        for index in from..self.boxes {
-            if owner_at(self.words, box_place(index)) == person {
-                return Some(index);
-            }
-        }
-        None
+        (from..self.boxes).find(|index| self.owns(person, *index))
     }
 
     // Writes the row that shows a box to the front of `out`, leaves the rest of it, and says how long the row is. Where there is no such box, or
@@ -90,6 +96,6 @@ impl<'a> Directory<'a> {
         if index >= self.boxes {
             return None;
         }
-        put_row(self.words, box_place(index), out)
+        self.box_record(index).put_row(out)
     }
 }

@@ -3,11 +3,12 @@
 
 mod add;
 mod directory;
+mod kept;
 mod name;
 mod place;
 mod row;
 
-pub use add::{add_box, add_person, first};
+pub use add::{NoRoom, add_box, add_person, first};
 pub use directory::Directory;
 pub use place::{MOST_PEOPLE, RECORD_WORDS};
 

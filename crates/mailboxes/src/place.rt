@@ -3,13 +3,16 @@ ghost use Rattle.std.specs.Prelude.{◌≡◌, ◌^◌, ◌<◌};
 ghost use Rattle.mailboxes.specs.Directory.{person_place, box_place};
 ghost use Rattle.mailboxes.specs.Room.{people_room, box_room};
 
-pub const RECORD_WORDS: usize = 12;
+use pages::places;
+
+// The record of a person or of a box has so many words.
+pub const RECORD_WORDS: usize = places::RECORD_WORDS as usize;
 
 // A house has at most this many people.
 pub const MOST_PEOPLE: u64 = 64;
 
 // Records of 64 people and 16 ways of 6 words lie before the boxes.
-const BOXES_PLACE: usize = 864;
+const BOXES_PLACE: usize = places::BOXES_PLACE as usize;
 
 // Where a person's record begins.
 pub(crate) fn person_place(person: u64) -> usize

@@ -5,14 +5,16 @@ use super::*;
 const WORDS: usize = 900;
 
 // The postmaster, and Anna with a second box.
-fn made(words: &mut [u64]) -> bool {
-    first(words) && add_person(words, 1, 1, b"anna") && add_box(words, 2, 1, b"work")
+fn made(words: &mut [u64]) -> Result<(), NoRoom> {
+    first(words)?;
+    add_person(words, 1, 1, b"anna")?;
+    add_box(words, 2, 1, b"work")
 }
 
 #[test]
 fn names_are_found(rt: HostRuntime) {
     let mut words = [0; WORDS];
-    assert!(rt; made(&mut words));
+    assert_eq!(rt; made(&mut words), Ok(()));
     let directory = Directory::new(&words, 2, 3);
     assert_eq!(rt; directory.find_person(b"post"), Some(0));
     assert_eq!(rt; directory.find_person(b"anna"), Some(1));
@@ -27,7 +29,7 @@ fn names_are_found(rt: HostRuntime) {
 #[test]
 fn boxes_are_counted_and_shown(rt: HostRuntime) {
     let mut words = [0; WORDS];
-    assert!(rt; made(&mut words));
+    assert_eq!(rt; made(&mut words), Ok(()));
     let directory = Directory::new(&words, 2, 3);
     assert_eq!(rt; directory.count_boxes(1), 2);
     assert_eq!(rt; directory.next_box(1, 2), Some(2));
@@ -44,11 +46,11 @@ fn boxes_are_counted_and_shown(rt: HostRuntime) {
 #[test]
 fn without_room_nothing_is_written(rt: HostRuntime) {
     let mut words = [0; WORDS];
-    assert!(rt; made(&mut words));
-    assert_eq!(rt; add_box(&mut words, 3, 1, b"more"), false);
-    assert_eq!(rt; add_box(&mut words, 2, 64, b"more"), false);
-    assert_eq!(rt; add_person(&mut words, 64, 2, b"eve"), false);
-    assert_eq!(rt; add_person(&mut words, 2, 2, &[b'a'; 65]), false);
-    assert_eq!(rt; first(&mut [0; 875]), false);
+    assert_eq!(rt; made(&mut words), Ok(()));
+    assert_eq!(rt; add_box(&mut words, 3, 1, b"more"), Err(NoRoom));
+    assert_eq!(rt; add_box(&mut words, 2, 64, b"more"), Err(NoRoom));
+    assert_eq!(rt; add_person(&mut words, 64, 2, b"eve"), Err(NoRoom));
+    assert_eq!(rt; add_person(&mut words, 2, 2, &[b'a'; 65]), Err(NoRoom));
+    assert_eq!(rt; first(&mut [0; 875]), Err(NoRoom));
     assert_eq!(rt; Directory::new(&words, 2, 3).find_box(1, b"work"), Some(2));
 }

@@ -12,7 +12,8 @@ use Rattle.pages.specs.Store.{Image, Kept, TableKept, SelectorsKept, area}
 use Rattle.pages.specs.Commit.{Spare}
 use Rattle.pages.proofs.Reading.{length_set_page, page_at_set_same, page_at_set_other, written_queued, read_queued_same, read_queued_other}
 use Rattle.pages.proofs.Geometry.{selector_place_same, selector_place_some, table_place_some, table_place_apart, table_place_bits, selector_table_apart}
-use Rattle.pages.proofs.Harmless.{Harmless, Both, both_harmless, pick_either, Working, working_queued, working_flushed, working_still, working_read}
+use Rattle.model.proofs.Places.{pick_both}
+use Rattle.pages.proofs.Harmless.{Harmless, Both, both_harmless, Working, working_queued, working_flushed, working_still, working_read}
 use Rattle.pages.proofs.Kept.{OfBodies, spare_harmless, bodies_harmless, twin_spare, area_spare, body_spare, table_below, selectors_below}
 
 -- what reading shows of an image
@@ -225,8 +226,8 @@ pub left_one : (Φ : List Page → Type 0) (ps : List Page) (w : Write) (cs : Li
 unfolding left
 left_one Φ ps w [] a b c = a
 left_one Φ ps w (x ∷ cs) a b c =
-    pick_either Φ (eqb x 1) (set_page ps w.at w.page) (pick (eqb x 2) (set_page ps w.at (half w.page (page_at ps w.at))) ps) b
-    (pick_either Φ (eqb x 2) (set_page ps w.at (half w.page (page_at ps w.at))) ps c a)
+    pick_both Φ (eqb x 1) (set_page ps w.at w.page) (pick (eqb x 2) (set_page ps w.at (half w.page (page_at ps w.at))) ps) b
+    (pick_both Φ (eqb x 2) (set_page ps w.at (half w.page (page_at ps w.at))) ps c a)
 
 module _ (P : ℕ) (s s' : Image) (B B' : List Page → Type 0) (f : Follows P s s' B B') (d : Device) (r : Prepared P s s' B B' d) where
   pub header_set : (p : Page) → take 256 p ≡ bytes_of s'.header → Both (Kept P s') B' (set_page d.pages 0 p)

@@ -4,6 +4,7 @@ use Rattle.std.proofs.Common.{◌≡◌, ℕ, Bool, true, false, eqb, List, [], 
 use Rattle.model.specs.Mail.{pick}
 use Rattle.model.specs.Device.{Device, Page, Write, set_page, page_at, all_written, flushed, half, left, stopped}
 use Rattle.model.specs.Run.{queued}
+use Rattle.model.proofs.Places.{pick_both}
 
 abbrev pub Harmless : (List Page → Type 0) → Write → Type 0
 Harmless Φ w = (ps : List Page) → Φ ps → Φ (set_page ps w.at w.page) × Φ (set_page ps w.at (half w.page (page_at ps w.at)))
@@ -12,18 +13,14 @@ abbrev pub AllHarmless : (List Page → Type 0) → List Write → Type 0
 AllHarmless Φ [] = Unit {0}
 AllHarmless Φ (w ∷ ws) = Harmless Φ w × AllHarmless Φ ws
 
-pub pick_either : {A : Type 0} (P : A → Type 0) (b : Bool) (x y : A) → P x → P y → P (pick b x y)
-pick_either P true x y px py = px
-pick_either P false x y px py = py
-
 pub left_keeps : (Φ : List Page → Type 0) (qs : List Write) (ps : List Page) (cs : List ℕ) → AllHarmless Φ qs → Φ ps → Φ (left ps qs cs)
 unfolding left
 left_keeps Φ [] ps cs h p = p
 left_keeps Φ (w ∷ ws) ps [] h p = p
 left_keeps Φ (w ∷ ws) ps (c ∷ cs) h p =
     left_keeps Φ ws (pick (eqb c 1) (set_page ps w.at w.page) (pick (eqb c 2) (set_page ps w.at (half w.page (page_at ps w.at))) ps)) cs h.1
-    (pick_either Φ (eqb c 1) (set_page ps w.at w.page) (pick (eqb c 2) (set_page ps w.at (half w.page (page_at ps w.at))) ps) (h.0 ps p).0
-    (pick_either Φ (eqb c 2) (set_page ps w.at (half w.page (page_at ps w.at))) ps (h.0 ps p).1 p))
+    (pick_both Φ (eqb c 1) (set_page ps w.at w.page) (pick (eqb c 2) (set_page ps w.at (half w.page (page_at ps w.at))) ps) (h.0 ps p).0
+    (pick_both Φ (eqb c 2) (set_page ps w.at (half w.page (page_at ps w.at))) ps (h.0 ps p).1 p))
 
 -- both of two properties
 abbrev pub Both : (List Page → Type 0) → (List Page → Type 0) → List Page → Type 0

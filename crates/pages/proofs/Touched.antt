@@ -1,5 +1,5 @@
--- Laws of the first touched page: it is touched and none before it is, or none is; and how a walk finds it.
-use Rattle.std.proofs.Common.{◌≡◌, ℕ, zero, suc, ◌+◌, ◌-◌, ◌/◌, ◌<◌, ◌≤◌, List, length, Some, None, Option, sym, refl, ap, ◌∙◌, inl, inr, arith, MatchOption}
+-- Laws of the first touched page: it is touched and none before it is, or none is; and how a search finds it.
+use Rattle.std.proofs.Common.{◌≢◌, ◌≡◌, ℕ, zero, suc, ◌+◌, ◌-◌, ◌/◌, ◌<◌, ◌≤◌, List, length, Some, None, Option, sym, refl, ◌∙◌, inl, inr, arith, MatchOption}
 use Rattle.std.proofs.lemmas.Bool.{cases_eq, cases_lt, eq-eqb, ne_eqb}
 use Rattle.pages.specs.Bits.{bit}
 use Rattle.pages.specs.Touched.{Untouched, IsFirst, touched_among, first_touched}
@@ -12,29 +12,6 @@ among_same counting coming n t e = rw (eq-eqb (bit counting t) (bit coming t) e)
 among_other : (counting coming : List ℕ) (n t : ℕ) → (bit counting t ≡ bit coming t → ⊥) → touched_among counting coming (suc n) t ≡ Some t
 unfolding touched_among
 among_other counting coming n t o = rw (ne_eqb (bit counting t) (bit coming t) o)
-
--- a walk
-
-pub first_touched_none : (counting coming : List ℕ) (from end : ℕ) → end ≤ from → first_touched counting coming from end ≡ None
-unfolding first_touched touched_among
-first_touched_none counting coming from end h = let e : end - from ≡ 0 = omega arith in rw e
-
-pub first_touched_same : (counting coming : List ℕ) (t end : ℕ) → t < end → bit counting t ≡ bit coming t →
-    first_touched counting coming t end ≡ first_touched counting coming (t + 1) end
-unfolding first_touched
-first_touched_same counting coming t end h e =
-    let n : ℕ = end - (t + 1) in
-    let l : end - t ≡ suc n = omega arith in
-    let s : t + 1 ≡ suc t = omega arith in
-    ap (λ k. touched_among counting coming k t) l ∙ among_same counting coming n t e ∙ ap (touched_among counting coming n) (sym s)
-
-pub first_touched_found : (counting coming : List ℕ) (t end : ℕ) → t < end → (bit counting t ≡ bit coming t → ⊥) →
-    first_touched counting coming t end ≡ Some t
-unfolding first_touched
-first_touched_found counting coming t end h o =
-    let n : ℕ = end - (t + 1) in
-    let l : end - t ≡ suc n = omega arith in
-    ap (λ k. touched_among counting coming k t) l ∙ among_other counting coming n t o
 
 -- what the answer says
 
@@ -50,10 +27,35 @@ unfolding first_touched
 first_touched_untouched counting coming from end h = among_untouched counting coming (end - from) from (λ u l k. h u l (omega arith))
 
 -- past the words all bits are 0
-pub first_touched_past : (counting coming : List ℕ) (from end : ℕ) → length counting ≤ from / 64 → length coming ≤ from / 64 →
-    first_touched counting coming from end ≡ None
-first_touched_past counting coming from end h k =
-    first_touched_untouched counting coming from end (λ u l m. bit_past counting u (omega arith) ∙ sym (bit_past coming u (omega arith)))
+pub same_past : (counting coming : List ℕ) (u : ℕ) → length counting ≤ u / 64 → length coming ≤ u / 64 → bit counting u ≡ bit coming u
+same_past counting coming u h k = bit_past counting u h ∙ sym (bit_past coming u k)
+
+among_first : (counting coming : List ℕ) (n s t : ℕ) → s ≤ t → t < s + n → (bit counting t ≡ bit coming t → ⊥) → Untouched counting coming s t →
+    touched_among counting coming n s ≡ Some t
+among_first counting coming zero s t l h o u = absurd (omega arith)
+among_first counting coming (suc n) s t l h o u =
+    elim (cases_eq s t) [
+      | inl e ↦ rw e (among_other counting coming n t o)
+      | inr d ↦
+          among_same counting coming n s (u s (omega arith) (omega arith))
+          ∙ among_first counting coming n (suc s) t (omega arith) (omega arith) o (λ v a b. u v (omega arith) b)
+    ]
+
+pub first_touched_first : (counting coming : List ℕ) (from end t : ℕ) → IsFirst counting coming from end t → first_touched counting coming from end ≡ Some t
+unfolding first_touched
+first_touched_first counting coming from end t h =
+    let within : t < from + (end - from) = omega (arith, h.from_on, h.before_end) in
+    among_first counting coming (end - from) from t h.from_on within h.differs h.none_before
+
+-- what a search up to `stop` finds, where no page from there on is touched
+pub first_touched_found : (counting coming : List ℕ) (from end stop : ℕ) (r : Option ℕ) → stop ≤ end → Untouched counting coming stop end →
+    MatchOption r (Untouched counting coming from stop)
+    (λ t. (from ≤ t) × (t < stop) × (bit counting t ≢ bit coming t) × Untouched counting coming from t) →
+    r ≡ first_touched counting coming from end
+first_touched_found counting coming from end stop None l past h =
+    sym (first_touched_untouched counting coming from end (λ u a b. elim (cases_lt u stop) [ inl k ↦ h u a k | inr k ↦ past u k b ]))
+first_touched_found counting coming from end stop (Some t) l past h =
+    sym (first_touched_first counting coming from end t (record { from_on = h.0; before_end = omega arith; differs = h.2; none_before = h.3 }))
 
 abbrev Says : List ℕ → List ℕ → ℕ → ℕ → Option ℕ → Type 0
 Says counting coming from end r = MatchOption r (Untouched counting coming from end) (IsFirst counting coming from end)
@@ -90,7 +92,7 @@ unfolding first_touched
 first_touched_says counting coming from end =
     elim (cases_lt from end) [
       | inl h ↦ within h
-      | inr h ↦ rw (first_touched_none counting coming from end h) (λ u l k. absurd (omega arith))
+      | inr h ↦ rw (first_touched_untouched counting coming from end (λ u l k. absurd (omega arith))) (λ u l k. absurd (omega arith))
     ]
   where
     within : from < end → MatchOption (first_touched counting coming from end) (Untouched counting coming from end) (IsFirst counting coming from end)

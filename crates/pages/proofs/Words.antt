@@ -1,23 +1,21 @@
 -- Laws of words in rows of bytes: how long, how large, there and back; and of parts and patches of long lists of words.
-use Rattle.std.proofs.Common.{◌≡◌, ℕ, zero, suc, ◌+◌, ◌-◌, ◌*◌, ◌/◌, ◌%◌, ◌^◌, ◌<◌, ◌≤◌, Bool, true, eqb, ltb, List, [], ◌∷◌, ◌++◌, length, get_or, take, drop, set, sym, refl, ap, ◌∙◌, append_assoc, append-nil, suc-add, zero-add, add-one, arith, length-append, length-drop, take-append-drop, length-take, length-take-le, get_or-drop, take_all, get_or-take, take-take, drop-drop, take-add, drop_at}
+use Rattle.std.proofs.Common.{replicate, w64, ◌≡◌, ℕ, zero, suc, ◌+◌, ◌-◌, ◌*◌, ◌/◌, ◌%◌, ◌^◌, ◌<◌, ◌≤◌, Bool, true, eqb, ltb, List, [], ◌∷◌, ◌++◌, length, get_or, take, drop, set, sym, refl, ap, ◌∙◌, append_assoc, append-nil, suc-add, zero-add, add-one, arith, length-append, length-drop, take-append-drop, length-take, length-take-le, get_or-drop, take_all, get_or-take, take-take, drop-drop, take-add, drop_at}
 use native.Mathlib.Nat.{sub-zero, zero-sub, suc-sub-suc}
 use lib.Seq.{take-append-le, drop-append-le, take-append_seam, set_split}
 use borrow.Rule.Slice.PartMut.{put_mid}
 use Rattle.std.proofs.lemmas.List.{nil_from_length, drop_all, drop_more, drop-take, get_or_append_left}
 use Rattle.std.proofs.lemmas.Slice.{between_is, drop-put_mid, take-put_mid, take-put_mid_below}
 use Rattle.std.proofs.lemmas.Bool.{ltb-true, lt-ltb, eq-eqb, and_parts, and_from}
+use Rattle.std.specs.Int.{from_be_bytes}
+use Rattle.std.specs.Simd.{first_chunks}
 use Rattle.model.specs.Mail.{every, flat, in_bytes, eight, all_bytes}
 use Rattle.model.specs.Device.{zeros, a_page}
 use Rattle.model.specs.Promise.{from_bytes}
 use Rattle.model.specs.Run.{all_small}
+use Rattle.model.proofs.Places.{every_append}
 use Rattle.pages.specs.Words.{words_in, bytes_of, part, patched}
 
 -- a test that holds of each element
-
-pub every_append : {A : Type 0} (p : A → Bool) (xs ys : List A) → every p xs ≡ true → every p ys ≡ true → every p (xs ++ ys) ≡ true
-every_append p [] ys h k = k
-every_append p (x ∷ xs) ys h k =
-    and_from (p x) (every p (xs ++ ys)) (and_parts (p x) (every p xs) h).0 (every_append p xs ys (and_parts (p x) (every p xs) h).1 k)
 
 pub every_take : {A : Type 0} (p : A → Bool) (n : ℕ) (xs : List A) → every p xs ≡ true → every p (take n xs) ≡ true
 every_take p zero xs h = refl
@@ -122,41 +120,50 @@ eight_is w =
 next_at : (k at next : ℕ) (bs : List ℕ) → at < length bs → at + 1 ≡ next → take (suc k) (drop at bs) ≡ get_or bs at 0 ∷ take k (drop next bs)
 next_at k at next bs h e = rw (← e, drop_more bs at 0 h)
 
-eight_at : (bs : List ℕ) (at : ℕ) → at + 8 ≤ length bs →
-    take 8 (drop at bs)
-    ≡ get_or bs at 0
-    ∷ get_or bs (at + 1) 0
-    ∷ get_or bs (at + 2) 0
-    ∷ get_or bs (at + 3) 0
-    ∷ get_or bs (at + 4) 0
-    ∷ get_or bs (at + 5) 0
-    ∷ get_or bs (at + 6) 0
-    ∷ get_or bs (at + 7) 0
+first_eight : (bs : List ℕ) → 8 ≤ length bs →
+    take 8 bs
+    ≡ get_or bs 0 0
+    ∷ get_or bs 1 0
+    ∷ get_or bs 2 0
+    ∷ get_or bs 3 0
+    ∷ get_or bs 4 0
+    ∷ get_or bs 5 0
+    ∷ get_or bs 6 0
+    ∷ get_or bs 7 0
     ∷ []
-eight_at bs at h =
+first_eight bs h =
     rw (
-      next_at 7 at (at + 1) bs (omega arith) refl,
-      next_at 6 (at + 1) (at + 2) bs (omega arith) (omega arith),
-      next_at 5 (at + 2) (at + 3) bs (omega arith) (omega arith),
-      next_at 4 (at + 3) (at + 4) bs (omega arith) (omega arith),
-      next_at 3 (at + 4) (at + 5) bs (omega arith) (omega arith),
-      next_at 2 (at + 5) (at + 6) bs (omega arith) (omega arith),
-      next_at 1 (at + 6) (at + 7) bs (omega arith) (omega arith),
-      next_at 0 (at + 7) (at + 8) bs (omega arith) (omega arith),
+      next_at 7 0 1 bs (omega arith) refl,
+      next_at 6 1 2 bs (omega arith) refl,
+      next_at 5 2 3 bs (omega arith) refl,
+      next_at 4 3 4 bs (omega arith) refl,
+      next_at 3 4 5 bs (omega arith) refl,
+      next_at 2 5 6 bs (omega arith) refl,
+      next_at 1 6 7 bs (omega arith) refl,
+      next_at 0 7 8 bs (omega arith) refl,
     )
 
-pub word_at_is : (bs : List ℕ) (at : ℕ) → at + 8 ≤ length bs →
-    get_or bs at 0 * 72057594037927936
-    + get_or bs (at + 1) 0 * 281474976710656
-    + get_or bs (at + 2) 0 * 1099511627776
-    + get_or bs (at + 3) 0 * 4294967296
-    + get_or bs (at + 4) 0 * 16777216
-    + get_or bs (at + 5) 0 * 65536
-    + get_or bs (at + 6) 0 * 256
-    + get_or bs (at + 7) 0
-    ≡ from_bytes 0 (take 8 (drop at bs))
+-- the word of eight bytes by their weights is the number that they spell
+pub word_of_bytes : (bs : List ℕ) → 8 ≤ length bs → from_be_bytes w64 bs ≡ from_bytes 0 (take 8 bs)
 unfolding from_bytes
-word_at_is bs at h = rw (eight_at bs at h) (omega arith)
+word_of_bytes bs h = rw (first_eight bs h) (omega arith)
+
+-- the bytes from 8 * i on, eight by eight
+pub chunk_at : (k i : ℕ) (bs d : List ℕ) → i < k → get_or (first_chunks 8 k bs) i d ≡ take 8 (drop (8 * i) bs)
+chunk_at zero i bs d h = absurd (omega arith)
+chunk_at (suc k) zero bs d h = refl
+chunk_at (suc k) (suc i) bs d h =
+    let next : 8 + 8 * i ≡ 8 * suc i = omega arith in
+    chunk_at k i (drop 8 bs) d (omega arith) ∙ ap (take 8) (drop-drop (8 * i) 8 bs ∙ ap (λ n. drop n bs) next)
+
+-- the word of such bytes
+pub word_of_chunk : (k i : ℕ) (bs d : List ℕ) → i < k → 8 * k ≤ length bs →
+    from_be_bytes w64 (get_or (first_chunks 8 k bs) i d) ≡ from_bytes 0 (take 8 (drop (8 * i) bs))
+word_of_chunk k i bs d h l =
+    let long : 8 ≤ length (drop (8 * i) bs) = omega (arith, length-drop (8 * i) bs) in
+    rw
+    (chunk_at k i bs d h)
+    (word_of_bytes (take 8 (drop (8 * i) bs)) (omega (arith, length-take-le 8 (drop (8 * i) bs) long)) ∙ ap (from_bytes 0) (take-take 8 8 (drop (8 * i) bs) (omega arith)))
 
 pub all_bytes_eight : (w : ℕ) → all_bytes (eight w) ≡ true
 all_bytes_eight w = in_bytes_bytes 8 w [] refl
@@ -210,6 +217,10 @@ pub length_bytes_of : (ws : List ℕ) → length (bytes_of ws) ≡ 8 * length ws
 unfolding bytes_of in_bytes
 length_bytes_of [] = refl
 length_bytes_of (w ∷ ws) = omega (arith, length_bytes_of ws)
+
+pub bytes_of_one : (w : ℕ) → bytes_of (w ∷ []) ≡ eight w
+unfolding bytes_of
+bytes_of_one w = append-nil (eight w)
 
 pub bytes_of_append : (xs ys : List ℕ) → bytes_of (xs ++ ys) ≡ bytes_of xs ++ bytes_of ys
 unfolding bytes_of
@@ -302,6 +313,11 @@ pub length_zeros : (n : ℕ) → length (zeros n) ≡ n
 unfolding zeros
 length_zeros zero = refl
 length_zeros (suc n) = ap suc (length_zeros n)
+
+pub zeros_are : (n : ℕ) → zeros n ≡ replicate n 0
+unfolding zeros
+zeros_are zero = refl
+zeros_are (suc n) = ap (λ r. 0 ∷ r) (zeros_are n)
 
 pub get_or_zeros : (n i : ℕ) → get_or (zeros n) i 0 ≡ 0
 unfolding zeros

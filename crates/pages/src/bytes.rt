@@ -1,53 +1,60 @@
 // Words in rows of bytes: eight bytes each, the highest first.
-ghost use Rattle.std.specs.Prelude.{◌≡◌, ◌+◌, ◌*◌, ◌≤◌, ◌++◌, length, take, drop, nat_le};
-ghost use Rattle.model.specs.Mail.{pick, eight};
+ghost use Rattle.std.specs.Prelude.{◌≡◌, ◌*◌, ◌≤◌, ◌++◌, ◌↔◌, length, take, drop, IsOk, OnOk, OnErr, Some, codes};
+ghost use Rattle.model.specs.Mail.{eight};
 ghost use Rattle.model.specs.Promise.{from_bytes};
 ghost use Rattle.pages.specs.Words.{words_in, bytes_of};
 
-const WORD_BYTES: usize = 8;
+use std::error::Error;
+use std::fmt;
 
-// The word whose eight bytes begin at a place.
-fn word_at(bytes: &[u8], at: usize) -> u64
-    requires { at + 8 ≤ length bytes.now }
-    ensures { result ≡ from_bytes 0 (take 8 (drop at bytes.now)) }
-{
-    u64::from_be_bytes([
-        bytes[at],
-        bytes[at + 1],
-        bytes[at + 2],
-        bytes[at + 3],
-        bytes[at + 4],
-        bytes[at + 5],
-        bytes[at + 6],
-        bytes[at + 7],
-    ])
+// A word has so many bytes.
+pub const WORD_BYTES: usize = 8;
+
+// A page or a row has fewer bytes than the words take.
+#[derive(Clone, Copy, Debug, PartialEq, Eq)]
+pub struct TooShort;
+
+// By hand, since of a text that is derived nothing is promised.
+impl fmt::Display for TooShort {
+    ghost output = { λ _. Some (codes "too short for the words") };
+
+    fn fmt<W: fmt::Write>(&self, f: &mut fmt::Formatter<W>) -> fmt::Result {
+        write!(f, "too short for the words")
+    }
 }
 
+impl Error for TooShort {}
+
 // Reads words from the front of a page, as many as there are places for. A page that is too short for that is refused, and nothing is read.
-pub fn load(page: &[u8], words: &mut [u64]) -> bool
-    ensures fits { result ≡ nat_le (8 * length words.old) (length page.now) }
-    ensures read { words.new ≡ pick result (words_in (length words.old) page.now) words.old }
+pub fn load(page: &[u8], words: &mut [u64]) -> Result<(), TooShort>
+    ensures fits { IsOk result ↔ (8 * length words.old ≤ length page.now) }
+    ensures read { OnOk result (words.new ≡ words_in (length words.old) page.now) }
+    ensures kept { OnErr result (words.new ≡ words.old) }
 {
-    if page.len() / WORD_BYTES < words.len() {
-        return false;
+    let (chunks, _) = page.as_chunks::<WORD_BYTES>();
+    if chunks.len() < words.len() {
+        return Err(TooShort);
     }
+    // What `iter_mut` writes inside a `zip` is lost to a proof, so each word takes its chunk by number.
     for (i, word) in words.iter_mut().enumerate() {
-        *word = word_at(page, WORD_BYTES * i);
+        *word = u64::from_be_bytes(chunks[i]);
     }
-    true
+    Ok(())
 }
 
 // Writes the bytes of words to the front of a row, and leaves the rest of it. A row that is too short is refused, and nothing is written.
-pub fn store(words: &[u64], out: &mut [u8]) -> bool
-    ensures fits { result ≡ nat_le (8 * length words.now) (length out.old) }
-    ensures written { out.new ≡ pick result (bytes_of words.now ++ drop (8 * length words.now) out.old) out.old }
+pub fn store(words: &[u64], out: &mut [u8]) -> Result<(), TooShort>
+    ensures fits { IsOk result ↔ (8 * length words.now ≤ length out.old) }
+    ensures written { OnOk result (out.new ≡ bytes_of words.now ++ drop (8 * length words.now) out.old) }
+    ensures kept { OnErr result (out.new ≡ out.old) }
 {
     if out.len() / WORD_BYTES < words.len() {
-        return false;
+        return Err(TooShort);
     }
+    // What `as_chunks_mut` lends is lost to a proof when it ends, so the bytes go to their places by number.
     for (i, word) in words.iter().enumerate() {
         let at = WORD_BYTES * i;
         out[at..at + WORD_BYTES].copy_from_slice(&word.to_be_bytes());
     }
-    true
+    Ok(())
 }

@@ -8,7 +8,10 @@ pub mod selectors;
 
 ghost use Rattle.pages.specs.Commit.{CommitAtomic, BlankKept};
 
+// A page has so many words, and so many bytes.
 pub const PAGE_WORDS: usize = 64;
+
+pub const PAGE_LEN: usize = 512;
 
 // Whatever is kept: a commit that is cut off anywhere, with any of the writes that waited there, half there or not, leaves all as before or all
 // as after; before the header is written all as before, and after the last flush all as after.
@@ -23,7 +26,7 @@ pub fn blank_kept()
 
 #[cfg(test)]
 mod tests {
-    use crate::bytes::{load, store};
+    use crate::bytes::{TooShort, load, store};
     use crate::places::Geometry;
     use crate::selectors::{bit, next_touched, touch};
     use std::test::Fail;
@@ -32,15 +35,15 @@ mod tests {
     fn words_come_back(rt: HostRuntime) {
         let words = [1, 0x0123_4567_89ab_cdef, u64::MAX];
         let mut page = [7; 25];
-        assert!(rt; store(&words, &mut page));
+        assert_eq!(rt; store(&words, &mut page), Ok(()));
         assert_eq!(rt; page[7], 1);
         assert_eq!(rt; page[8], 0x01);
         assert_eq!(rt; page[15], 0xef);
         assert_eq!(rt; page[24], 7);
         let mut back = [0; 3];
-        assert!(rt; load(&page, &mut back));
+        assert_eq!(rt; load(&page, &mut back), Ok(()));
         assert_eq!(rt; back, words);
-        assert!(rt; !load(&page, &mut [0; 4]));
+        assert_eq!(rt; load(&page, &mut [0; 4]), Err(TooShort));
     }
 
     #[test]

@@ -5,19 +5,15 @@ ghost use Rattle.pages.specs.Touched.{first_touched};
 
 const WORD_BITS: u64 = 64;
 
-// The bit of a table page, 0 or 1.
+// The bit of a table page, 0 or 1: a number, since places are counted with it.
 pub fn bit(words: &[u64], t: u64) -> u64
     ensures { result ≡ bit words.now t }
 {
-    let place = (t / WORD_BITS) as usize;
-    if place < words.len() {
-        words[place] >> (t % WORD_BITS) & 1
-    } else {
-        0
-    }
+    let word = words.get((t / WORD_BITS) as usize).copied().unwrap_or(0);
+    word >> (t % WORD_BITS) & 1
 }
 
-// Turns the bit of a table page.
+// Turns the bit of a table page. What `get_mut` lends is lost to a proof when it ends, so the word is written by its place.
 pub fn flip(words: &mut [u64], t: u64)
     ensures { words.new ≡ flipped words.old t }
 {
@@ -28,6 +24,7 @@ pub fn flip(words: &mut [u64], t: u64)
 }
 
 // A table page is to change: its bit that is to count is turned away from the one that counts, unless it has been already.
+#[tactic(auto, using(crate::proofs::Bits::touched_same, crate::proofs::Bits::touched_already))]
 pub fn touch(counting: &[u64], coming: &mut [u64], t: u64)
     ensures { coming.new ≡ touched counting.now coming.old t }
 {
@@ -41,12 +38,6 @@ pub fn next_touched(counting: &[u64], coming: &[u64], from: u64, end: u64) -> Op
     ensures { result ≡ first_touched counting.now coming.now from end }
 {
     let words = counting.len().max(coming.len()) as u64;
-    let mut t = from;
-    while t < end && t / WORD_BITS < words {
-        if bit(counting, t) != bit(coming, t) {
-            return Some(t);
-        }
-        t += 1;
-    }
-    None
+    let end = end.min(words.saturating_mul(WORD_BITS));
+    (from..end).find(|t| bit(counting, *t) != bit(coming, *t))
 }

@@ -6,13 +6,9 @@ use Rattle.mailboxes.proofs.Records.{length_box_record}
 use Rattle.mailboxes.proofs.Writes.{record_put}
 use Rattle.mailboxes.proofs.add.add_box.Goals as goal
 
-pub returns : goal.returns
+pub returns-clause-written : goal.returns-clause-written
 unfolding with_box box_record
-returns c =
+returns-clause-written c =
     let new = box_record c.args.person c.args.name.now in
-    record {
-      fits = c.if-not-has_room.ensures;
-      written =
-          record_put c.args.words.now c.box_place-at.result c.put_record.new.out new c.put_record.ensures (length_box_record c.args.person c.args.name.now)
-          ∙ ap (λ at. patched c.args.words.now at new) c.box_place-at.ensures;
-    }
+    record_put c.args.words.now c.box_place-at.result c.copy_from_slice.new.self new (c.copy_from_slice.ensures.after ∙ c.new_record.ensures) (length_box_record c.args.person c.args.name.now)
+    ∙ ap (λ at. patched c.args.words.now at new) c.box_place-at.ensures

@@ -1,5 +1,5 @@
 -- Each turn writes the bytes of one word more, and leaves what lies behind them.
-use Rattle.std.proofs.Common.{◌≡◌, ℕ, ◌+◌, ◌-◌, ◌*◌, ◌<◌, List, ◌++◌, length, get_or, take, drop, sym, refl, ap, ◌∙◌, append_assoc, arith, length-take-le, take_all, drop-drop, take_at, drop_at, le-leb}
+use Rattle.std.proofs.Common.{◌≡◌, ℕ, ◌+◌, ◌-◌, ◌*◌, ◌<◌, List, ◌++◌, length, get_or, take, drop, sym, refl, ap, ◌∙◌, append_assoc, arith, length-take-le, drop-drop, take_at, drop_at}
 use borrow.Rule.Slice.PartMut.{put_mid}
 use Rattle.std.proofs.lemmas.List.{take_more}
 use Rattle.model.specs.Mail.{eight}
@@ -35,15 +35,3 @@ loop-i-preserved c =
     (put_mid (8 * c.loop-i.i) 8 c.loop-i.out)
     (c.copy_from_slice.ensures.after ∙ c.to_be_bytes.ensures ∙ sym (eight_is (get_or c.args.words.now c.loop-i.i 0)))
     ∙ one_more c.args.words.now c.args.out.now c.loop-i.out c.loop-i.i c.loop-i-test.true c.loop-i.invariant
-
-pub returns : goal.returns
-returns c =
-    let ws = c.args.words.now in
-    let all : c.loop-i.i ≡ length ws = omega arith in
-    record {
-      fits = sym (le-leb (8 * length ws) (length c.args.out.now) (omega arith));
-      written =
-          c.loop-i.invariant
-          ∙ ap (λ r. bytes_of r ++ drop (8 * c.loop-i.i) c.args.out.now) (take_all c.loop-i.i ws (omega arith))
-          ∙ ap (λ n. bytes_of ws ++ drop (8 * n) c.args.out.now) all;
-    }

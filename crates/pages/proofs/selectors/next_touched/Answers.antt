@@ -1,38 +1,15 @@
--- A page whose bits agree is passed by, one whose bits differ is the answer, and past the words there is none.
-use Rattle.std.proofs.Common.{sym, ◌∙◌, arith}
-use Rattle.pages.proofs.Touched.{first_touched_none, first_touched_same, first_touched_found, first_touched_past}
+-- The search ends with the words, and past them nothing is touched.
+use Rattle.std.proofs.Common.{◌≡◌, ◌≢◌, rules, arith}
+use borrow.Author.Tests.{tests}
+use Rattle.std.proofs.lemmas.Iterator.{first_from_Range}
+use Rattle.pages.specs.Bits.{bit}
+use Rattle.pages.proofs.Touched.{first_touched_found, same_past}
 use Rattle.pages.proofs.selectors.next_touched.Goals as goal
 
-pub returns-then-bit : goal.returns-then-bit
-returns-then-bit c =
-    sym
-    (first_touched_found
-    c.args.counting.now
-    c.args.coming.now
-    c.loop-t.t
-    c.args.end
-    c.loop-t-test.true
-    (λ e. c.if-bit.true (c.bit.ensures ∙ e ∙ sym c.bit-in-loop-t.ensures)))
-    ∙ c.loop-t.invariant
-
-pub loop-t-preserved : goal.loop-t-preserved
-loop-t-preserved c =
-    sym
-    (first_touched_same
-    c.args.counting.now
-    c.args.coming.now
-    c.loop-t.t
-    c.args.end
-    c.loop-t-test.true
-    (sym c.bit.ensures ∙ c.if-bit.false ∙ c.bit-in-loop-t.ensures))
-    ∙ c.loop-t.invariant
-
-pub returns-else-t-words : goal.returns-else-t-words
-returns-else-t-words c =
-    sym (first_touched_past c.args.counting.now c.args.coming.now c.loop-t.t c.args.end (omega arith) (omega arith))
-    ∙ c.loop-t.invariant
-
-pub returns-after-loop-t : goal.returns-after-loop-t
-returns-after-loop-t c =
-    sym (first_touched_none c.args.counting.now c.args.coming.now c.loop-t.t c.args.end c.loop-t-test.false)
-    ∙ c.loop-t.invariant
+pub returns : goal.returns
+returns c =
+    let counting = c.args.counting.now in
+    let coming = c.args.coming.now in
+    first_touched_found counting coming c.args.from c.args.end c.min-end.result c.find.result (omega arith)
+    (λ u a b. same_past counting coming u (omega arith) (omega arith))
+    (first_from_Range _ _ _ _ (λ t. bit counting t ≢ bit coming t) (λ t. bit counting t ≡ bit coming t) c.find.ensures.ran (λ x q k. search (rules, tests)) (λ x q k. search (rules, tests)))

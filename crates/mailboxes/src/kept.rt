@@ -1,0 +1,95 @@
+// Records: twelve words that begin with the owner and a name. A box keeps the number that its next letter gets behind them.
+ghost use Rattle.std.specs.Prelude.{◌≡◌, ◌+◌, ◌<◌, ◌≤◌, [], ◌∷◌, ◌++◌, length, slice_index};
+ghost use Rattle.pages.specs.Words.{bytes_of, part};
+ghost use Rattle.mailboxes.specs.Directory.{name_record, named, name_at, owner_at};
+
+use crate::name::{NAME_BYTES, NAME_WORDS, name_words};
+use crate::place::RECORD_WORDS;
+use pages::bytes::store;
+
+// The page's format: a record's first word is the owner times this, and the name's length.
+const OWNER_STEP: u64 = 256;
+
+// The words of the name begin behind the first one, and end before the number that the next letter gets.
+const NAME_PLACE: usize = 1;
+
+const NEXT_PLACE: usize = NAME_PLACE + NAME_WORDS;
+
+// A record: so many lent words. A slice, since the length of an array behind a reference in a struct is lost to a proof.
+#[derive(Clone, Copy)]
+pub(crate) struct Record<'a> {
+    words: &'a [u64],
+    ghost whole: { length words.now ≡ 12 },
+}
+
+impl<'a> Record<'a> {
+    // The record at a place.
+    pub(crate) fn at(words: &'a [u64], at: usize) -> Record<'a>
+        requires { at + 12 ≤ length words.now }
+        ensures { result.words.now ≡ part words.now at 12 }
+    {
+        Record {
+            words: &words[at..at + RECORD_WORDS],
+        }
+    }
+
+    // Who owns it.
+    #[tactic(auto, unfolding(crate::specs::Directory::owner_at))]
+    pub(crate) fn owner(&self) -> u64
+        ensures { result ≡ owner_at self.now.words.now 0 }
+    {
+        self.words[0] / OWNER_STEP
+    }
+
+    // The words that its name is kept as.
+    fn name_words(&self) -> &'a [u64]
+        ensures { result.now ≡ part self.now.words.now 1 8 }
+    {
+        &self.words[NAME_PLACE..NEXT_PLACE]
+    }
+
+    // Whether it has this name.
+    pub(crate) fn has_name(&self, name: &[u8]) -> bool
+        ensures { result ≡ named self.now.words.now 0 name.now }
+    {
+        self.words[0] % OWNER_STEP == name.len() as u64
+            && self.name_words() == name_words(name).as_slice()
+    }
+
+    // How long its name is.
+    #[tactic(auto, using(crate::proofs::Rows::name_length))]
+    pub(crate) fn name_len(&self) -> usize
+        ensures long { result ≡ length (name_at self.now.words.now 0) }
+        ensures short { result ≤ 64 }
+    {
+        NAME_BYTES.min((self.words[0] % OWNER_STEP) as usize)
+    }
+
+    // The bytes that its name is kept as: the name, and zeros behind it.
+    pub(crate) fn name_bytes(&self) -> [u8; NAME_BYTES]
+        ensures { result ≡ bytes_of (part self.now.words.now 1 8) }
+    {
+        let mut bytes = [0; NAME_BYTES];
+        store(self.name_words(), &mut bytes).unwrap();
+        bytes
+    }
+
+    // The number that the next letter gets.
+    pub(crate) fn next(&self) -> u64
+        ensures { result ≡ slice_index self.now.words.now 9 }
+    {
+        self.words[NEXT_PLACE]
+    }
+}
+
+// The words of a record: who owns it, its name, and the first of the three words behind that; the others are 0.
+pub(crate) fn new_record(owner: u64, name: &[u8], next: u64) -> [u64; RECORD_WORDS]
+    requires { (owner < 64) × (length name.now ≤ 64) }
+    ensures { result ≡ name_record owner name.now ++ next ∷ 0 ∷ 0 ∷ [] }
+{
+    let mut words = [0; RECORD_WORDS];
+    words[0] = OWNER_STEP * owner + name.len() as u64;
+    words[NAME_PLACE..NEXT_PLACE].copy_from_slice(&name_words(name));
+    words[NEXT_PLACE] = next;
+    words
+}

@@ -1,12 +1,16 @@
 -- How an act is told, from its parts; and a place that is there, since the tests for it hold.
-use Rattle.std.proofs.Common.{◌≡◌, ℕ, Bool, true, false, List, ◌++◌, length, drop, Some, None, Option, sym, refl, ap, ◌∙◌, subst, arith}
+use Rattle.std.proofs.Common.{◌≡◌, ℕ, Bool, true, false, List, ◌++◌, length, drop, Some, None, Option, IsSome, Ok, Err, Result, MatchResult, sym, refl, ap, ◌∙◌, subst, arith}
+use Rattle.std.specs.Option.{ok_or}
+use Rattle.std.specs.Result.{IsErrAnd}
 use Rattle.model.specs.Mail.{pick}
 use Rattle.model.specs.Run.{Step, read, write, flush, shows, done, refused}
+use Rattle.house.specs.declared.refusal.Refusal.{Refusal}
 use Rattle.house.specs.declared.Told.{Told}
 use Rattle.house.specs.declared.Told.TheVariants.{Read, Write, Flush, Shows, Done, No}
 use Rattle.house.specs.Entry.{ActTold}
 use Rattle.house.specs.Machine.{refuse}
-use Rattle.house.specs.Does.{Does, Quietly}
+use Rattle.house.specs.Told.{refusal_number}
+use Rattle.house.specs.Does.{Does, Quietly, told_result}
 
 pub told_read : (k k₁ : ℕ) → k₁ ≡ k → (out : List ℕ) → ActTold (read k) (Read k₁) out out
 unfolding ActTold
@@ -35,10 +39,9 @@ told_refused k k₁ e out = (ap No e, refl)
 pub some_place : (t : Bool) (x place : ℕ) → t ≡ true → Some place ≡ pick t (Some x) None → place ≡ x
 some_place t x place e h = let z : ◌≡◌ {A = Option ℕ} (Some place) (Some x) = h ∙ ap (λ b. pick b (Some x) None) e in cc
 
-pub no_place : (t : Bool) (x : ℕ) → t ≡ true → None ≡ pick t (Some x) None → ⊥
-no_place t x e h =
-    let z : ◌≡◌ {A = Option ℕ} None (Some x) = h ∙ ap (λ b. pick b (Some x) None) e in
-    let y : ◌≡◌ {A = ℕ} 0 1 = cc in omega arith
+-- where the test holds a place is there
+pub there : (t : Bool) (x : ℕ) (o : Option ℕ) → t ≡ true → o ≡ pick t (Some x) None → IsSome o
+there t x o e h = subst IsSome (sym (h ∙ ap (λ b. pick b (Some x) None) e)) refl
 
 -- whether a place is there tells the test
 pub some_test : (t : Bool) (x place : ℕ) → Some place ≡ pick t (Some x) None → t ≡ true
@@ -62,8 +65,13 @@ refused_quietly m k k₁ e f = quietly_as (No k₁) m f (refl, told_refused k k�
 pub refused_does : {s : Step} (m out : List ℕ) (k k₁ : ℕ) → k₁ ≡ k → s ≡ refuse k m → Does s (No k₁) out m out
 refused_does m out k k₁ e f = does_as (No k₁) out m out f (refl, told_refused k k₁ e out)
 
-pub out_quietly : {s : Step} (m : List ℕ) (r : Told) → r ≡ No 1 → s ≡ refuse 1 m → Quietly s r m
-out_quietly {s} m r e f = subst (λ x. Quietly s x m) (sym e) (refused_quietly m 1 1 refl f)
+-- a refusal that is handed on where nothing is there
+pub handed_on : {T : Type 0} (o : Option T) (e e₁ : Refusal) (r : Result Told Refusal) → Err e₁ ≡ ok_or o e → IsErrAnd r (λ x. x ≡ e₁) → (o ≡ None) × (told_result r ≡ No (refusal_number e))
+handed_on None e e₁ (Ok x) h i = absurd i
+handed_on None e e₁ (Err x) h i = (refl, let y : x ≡ e = cc in ap (λ z. No (refusal_number z)) y)
+handed_on (Some x) e e₁ r h i = let y : ◌≡◌ {A = ℕ} 0 1 = cc in absurd (omega arith)
 
-pub out_does : {s : Step} (m out : List ℕ) (r : Told) → r ≡ No 1 → s ≡ refuse 1 m → Does s r out m out
-out_does {s} m out r e f = subst (λ x. Does s x out m out) (sym e) (refused_does m out 1 1 refl f)
+-- an act, or what a refusal is told as
+pub told_from : (r : Result Told Refusal) (t : Told) → MatchResult r (λ x. t ≡ x) (λ e. t ≡ No (refusal_number e)) → t ≡ told_result r
+told_from (Ok x) t h = h
+told_from (Err e) t h = h

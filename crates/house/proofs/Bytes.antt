@@ -1,37 +1,41 @@
 -- Numbers of bytes, the highest first, and parts of a list that may end early.
-use Rattle.std.proofs.Common.{◌≡◌, ℕ, ◌+◌, ◌*◌, ◌^◌, ◌<◌, ◌≤◌, min, List, [], ◌∷◌, ◌++◌, length, get_or, take, drop, sym, refl, ap, ◌∙◌, add-one, arith}
-use native.Mathlib.Nat.{pow-succ', pow-le-pow_right}
-use native.Mathlib.Decide.{dec_le}
-use Rattle.std.proofs.lemmas.List.{take_all, drop_all, take_more}
+use Rattle.std.proofs.Common.{◌≡◌, ℕ, zero, suc, ◌+◌, ◌-◌, ◌*◌, ◌≤◌, List, [], ◌∷◌, ◌++◌, length, take, drop, w64, refl, ap, ◌∙◌, append-nil, length-append, length-drop, arith}
+use borrow.Rule.Slice.PartMut.{put_mid}
+use Rattle.std.proofs.lemmas.List.{take_all, drop_all}
+use Rattle.std.specs.Int.{from_be_bytes}
+use Rattle.model.specs.Device.{zeros}
+use Rattle.model.specs.Promise.{from_bytes}
+use Rattle.pages.proofs.Words.{word_of_bytes, length_zeros, take_zeros}
 use Rattle.house.specs.Entry.{from_eight}
 
--- one byte more
-pub from_eight_push : (n : ℕ) (xs : List ℕ) (b : ℕ) → from_eight n (xs ++ b ∷ []) ≡ 256 * from_eight n xs + b
-unfolding from_eight
-from_eight_push n [] b = refl
-from_eight_push n (x ∷ xs) b = from_eight_push (256 * n + x) xs b
+-- zeros before a number change nothing
+after_zeros : (k : ℕ) (bs : List ℕ) → from_bytes 0 (zeros k ++ bs) ≡ from_bytes 0 bs
+unfolding from_bytes zeros
+after_zeros zero bs = refl
+after_zeros (suc k) bs = after_zeros k bs
 
-pub from_eight_more : (bs : List ℕ) (i : ℕ) → i < length bs → from_eight 0 (take (i + 1) bs) ≡ 256 * from_eight 0 (take i bs) + get_or bs i 0
-from_eight_more bs i h = ap (from_eight 0) (take_more bs i 0 h) ∙ from_eight_push 0 (take i bs) (get_or bs i 0)
+spelled : (n : ℕ) (bs : List ℕ) → from_bytes n bs ≡ from_eight n bs
+unfolding from_bytes from_eight
+spelled n [] = refl
+spelled n (b ∷ bs) = spelled (256 * n + b) bs
 
--- fewer than eight bytes leave room for one more
-pub room_for_byte : (n i : ℕ) → i < 8 → n < 256 ^ i → n < 72057594037927936
-room_for_byte n i h lt = let le : 256 ^ i ≤ 256 ^ 7 = (let z : 0 < 256 = omega arith in let s : i ≤ 7 = omega arith in pow-le-pow_right z s) in omega arith
+-- at most eight bytes at the end of eight zeros
+padded_is : (bs new : List ℕ) → length bs ≤ 8 → new ≡ bs →
+    put_mid (8 - length bs) (8 - (8 - length bs)) (0 ∷ 0 ∷ 0 ∷ 0 ∷ 0 ∷ 0 ∷ 0 ∷ 0 ∷ []) new ≡ zeros (8 - length bs) ++ bs
+unfolding zeros
+padded_is bs new h e =
+    let a : ℕ = 8 - length bs in
+    ap (put_mid a (8 - a) (zeros 8)) e
+    ∙ ap (λ r. take a (zeros 8) ++ (bs ++ r)) (drop_all (8 - a) (drop a (zeros 8)) (omega (arith, length-drop a (zeros 8), length_zeros 8)))
+    ∙ ap (λ r. take a (zeros 8) ++ r) (append-nil bs)
+    ∙ ap (λ r. r ++ bs) (take_zeros a 8 (omega arith))
 
-pub byte_more : (n i b : ℕ) → n < 256 ^ i → b < 256 → 256 * n + b < 256 ^ (i + 1)
-byte_more n i b lt lb = rw (add-one, pow-succ' 256 i) (omega arith)
-
--- a part that begins or ends past the end
-pub drop_min : (xs : List ℕ) (n : ℕ) → drop (min n (length xs)) xs ≡ drop n xs
-drop_min xs n = by (dec_le n (length xs))
-  where
-    by : Dec (n ≤ length xs) → drop (min n (length xs)) xs ≡ drop n xs
-    by (yes h) = ap (λ k. drop k xs) (omega arith)
-    by (no h) = drop_all (min n (length xs)) xs (omega arith) ∙ sym (drop_all n xs (omega arith))
-
-pub take_min : (xs : List ℕ) (n : ℕ) → take (min (length xs) n) xs ≡ take n xs
-take_min xs n = by (dec_le n (length xs))
-  where
-    by : Dec (n ≤ length xs) → take (min (length xs) n) xs ≡ take n xs
-    by (yes h) = ap (λ k. take k xs) (omega arith)
-    by (no h) = take_all (min (length xs) n) xs (omega arith) ∙ sym (take_all n xs (omega arith))
+pub padded : (bs new : List ℕ) → length bs ≤ 8 → new ≡ bs →
+    from_be_bytes w64 (put_mid (8 - length bs) (8 - (8 - length bs)) (0 ∷ 0 ∷ 0 ∷ 0 ∷ 0 ∷ 0 ∷ 0 ∷ 0 ∷ []) new) ≡ from_eight 0 bs
+padded bs new h e =
+    let size : length (zeros (8 - length bs) ++ bs) ≡ 8 = length-append (zeros (8 - length bs)) bs ∙ omega (arith, length_zeros (8 - length bs)) in
+    ap (from_be_bytes w64) (padded_is bs new h e)
+    ∙ word_of_bytes (zeros (8 - length bs) ++ bs) (omega arith)
+    ∙ ap (from_bytes 0) (take_all 8 (zeros (8 - length bs) ++ bs) (omega arith))
+    ∙ after_zeros (8 - length bs) bs
+    ∙ spelled 0 bs

@@ -1,8 +1,8 @@
 -- A commit, act by act: from a memory whose directory has changed to pages that keep it, safe at every stop.
-use Rattle.std.proofs.Common.{◌≡◌, ℕ, zero, suc, ◌+◌, ◌-◌, ◌*◌, ◌^◌, ◌<◌, ◌≤◌, Bool, true, ◌&&◌, ltb, ◌≢◌, ◌⊎◌, List, [], ◌∷◌, ◌++◌, length, get_or, take, Some, None, Option, sym, refl, ap, ◌∙◌, subst, ap₂, inl, inr, ⊎_elim, arith, le-ltb, lt-ltb, eq-eqb, MatchOption}
+use Rattle.std.proofs.Common.{◌≡◌, ℕ, zero, suc, ◌+◌, ◌-◌, ◌*◌, ◌^◌, ◌<◌, ◌≤◌, Bool, true, ltb, ◌≢◌, ◌⊎◌, List, [], ◌∷◌, ◌++◌, length, get_or, take, Some, None, Option, sym, refl, ap, ◌∙◌, subst, ap₂, inl, inr, ⊎_elim, arith, le-ltb, lt-ltb, eq-eqb, MatchOption}
 use native.Mathlib.Decide.{dec_lt}
 use Rattle.std.proofs.lemmas.List.{take_at, length-append}
-use Rattle.std.proofs.lemmas.Bool.{cases_eq}
+use Rattle.std.proofs.lemmas.Bool.{cases_eq, and_from}
 use Rattle.model.specs.Mail.{pick}
 use Rattle.model.specs.Device.{Device, Page, flushed, stopped, a_page, zeros}
 use Rattle.model.specs.Run.{Event, next, write, flush, World, queued, writable, all_small}
@@ -11,7 +11,8 @@ use Rattle.pages.specs.Bits.{bit}
 use Rattle.pages.specs.Geometry.{selector_pages, directory_pages, table_pages, selector_place, table_place}
 use Rattle.pages.specs.Touched.{first_touched, Untouched, IsFirst}
 use Rattle.pages.specs.Store.{Image, Kept, area}
-use Rattle.pages.proofs.Words.{page_of_words, length_part, length_patched, length_bytes_of, all_bytes_of, length_zeros, get_or_patched, every_append, all_small_cons, all_small_nil}
+use Rattle.pages.proofs.Words.{page_of_words, length_part, length_patched, length_bytes_of, all_bytes_of, length_zeros, get_or_patched, all_small_cons, all_small_nil}
+use Rattle.model.proofs.Places.{every_append}
 use Rattle.mailboxes.proofs.Names.{all_bytes_zeros}
 use Rattle.pages.proofs.Touched.{first_touched_says}
 use Rattle.pages.proofs.Geometry.{table_place_lt, selector_place_lt, selector_pages_most, selector_pages_some, directory_pages_most}
@@ -43,9 +44,6 @@ turned_header header = patched header 1 ((1 - get_or header 1 0) ∷ [])
 
 pub small_three : (a b c : ℕ) → a < 2 ^ 64 → b < 2 ^ 64 → c < 2 ^ 64 → all_small (a ∷ b ∷ c ∷ []) ≡ true
 small_three a b c p q r = all_small_cons a (b ∷ c ∷ []) p (all_small_cons b (c ∷ []) q (all_small_cons c [] r all_small_nil))
-
-and_true : (a b : Bool) → a ≡ true → b ≡ true → a && b ≡ true
-and_true a b p q = rw (p, q)
 
 -- a course from here to a world of which something holds
 abbrev pub GoesTo : (Device → List (List ℕ) → Type 0) → (World → Type 0) → List (List ℕ) → ℕ → World → Event → Type 0
@@ -121,7 +119,7 @@ module _ (P : ℕ) (low : 256 ≤ P) (high : P ≤ 1048576) (u : Bool) (s : Imag
 
       header_whole : a_page header_page ≡ true
       unfolding header_page
-      header_whole = and_true _ _ (eq-eqb (length header_page) 512 header_512) (every_append (λ b. ltb b 256) (bytes_of (turned_header header)) (zeros 256) (all_bytes_of (turned_header header)) (all_bytes_zeros 256))
+      header_whole = and_from _ _ (eq-eqb (length header_page) 512 header_512) (every_append (λ b. ltb b 256) (bytes_of (turned_header header)) (zeros 256) (all_bytes_of (turned_header header)) (all_bytes_zeros 256))
 
       flush_header : (m : List ℕ) (d : Device) → Mem P FlushHeader regs (turned_header header) counting coming dir m → Prepared P s s' AnyBodies AnyBodies d → Working WholePages d
           → Goes 1 (world u (queued d 0 header_page) m) next
@@ -152,7 +150,7 @@ module _ (P : ℕ) (low : 256 ≤ P) (high : P ≤ 1048576) (u : Bool) (s : Imag
           go_writes 1 d m (in_phase FlushHeader m₁) next 0 header_page
           (on_next WriteHeader header m fits_old M ∙ header_step m M)
           (safe d (λ cs. (inl (working_stopped (Kept P s) d (working_still (Kept P s) d r.still r.old.0) cs), working_stopped WholePages d g cs)))
-          (and_true (ltb 0 (length d.pages)) (a_page header_page) (lt-ltb 0 (length d.pages) (omega (arith, r.old.0.sized))) header_whole)
+          (and_from (ltb 0 (length d.pages)) (a_page header_page) (lt-ltb 0 (length d.pages) (omega (arith, r.old.0.sized))) header_whole)
           (flush_header (in_phase FlushHeader m₁) d (to_phase P WriteHeader regs (turned_header header) counting coming dir m₁ M₁ FlushHeader (small_three 9 0 0 (omega arith) (omega arith) (omega arith))) r g)
 
       -- a selector page goes into the other area
@@ -180,7 +178,7 @@ module _ (P : ℕ) (low : 256 ≤ P) (high : P ≤ 1048576) (u : Bool) (s : Imag
           go_writes i d m₀ (in_phase (WriteSelectors (q + 1)) m) ev at p
           (e ∙ selector_step q phase m l M)
           (safe_working Everywhere (λ r. r < q) d a)
-          (and_true (ltb at (length d.pages)) (a_page p) (lt-ltb at (length d.pages) (subst (λ n. at < n) (sym (sized Everywhere (λ r. r < q) d a)) (selector_place_lt P (area s') q low small l))) page_ok)
+          (and_from (ltb at (length d.pages)) (a_page p) (lt-ltb at (length d.pages) (subst (λ n. at < n) (sym (sized Everywhere (λ r. r < q) d a)) (selector_place_lt P (area s') q low small l))) page_ok)
           (rest (queued d at p) (record {
             commits = shown_less P s s' AnyBodies AnyBodies Everywhere (Also q (λ r. r < q)) Everywhere (λ r. r < q + 1) (queued d at p) (λ t x y. tt)
                 (λ r x y. upto r (cases_eq r q) y)
@@ -269,7 +267,7 @@ module _ (P : ℕ) (low : 256 ≤ P) (high : P ≤ 1048576) (u : Bool) (s : Imag
           go_writes i d m₀ (in_phase (WriteTable (t + 1)) m) ev at p
           (e ∙ table_step t phase m l M)
           (safe_working (RightBefore j) Nowhere d a)
-          (and_true (ltb at (length d.pages)) (a_page p) (lt-ltb at (length d.pages) (subst (λ n. at < n) (sym (sized (RightBefore j) Nowhere d a)) (table_place_lt P coming t low lt))) page_ok)
+          (and_from (ltb at (length d.pages)) (a_page p) (lt-ltb at (length d.pages) (subst (λ n. at < n) (sym (sized (RightBefore j) Nowhere d a)) (table_place_lt P coming t low lt))) page_ok)
           (rest (in_phase (WriteTable (t + 1)) m) (queued d at p)
           (to_phase P phase regs header counting coming dir m M (WriteTable (t + 1)) (small_three 6 (t + 1) 0 (omega arith) (omega arith) (omega arith)))
           (record {

@@ -1,11 +1,11 @@
 -- From one house to all of them: what is owed of one house (HouseProof), and from it the promise for every list of items (all_right).
-use Rattle.std.proofs.Common.{◌≡◌, ℕ, zero, suc, ◌+◌, ◌<◌, ◌≤◌, Bool, true, false, not, ◌&&◌, eqb, ltb, leb, ◌⊎◌, List, [], ◌∷◌, ◌++◌, length, sym, refl, ap, ◌∙◌, subst, inl, inr, arith, ltb-true, eq-eqb}
+use Rattle.std.proofs.Common.{◌≡◌, ℕ, suc, ◌<◌, ◌≤◌, Bool, true, false, ◌&&◌, eqb, ltb, ◌⊎◌, List, [], ◌∷◌, length, sym, refl, ap, ◌∙◌, subst, inl, inr, arith, ltb-true, eq-eqb}
 use mathlib.Core.Bool.{false≢true}
 use native.Mathlib.Decide.{ℕ_discrete}
 use Rattle.model.specs.Mail.{pick}
 use Rattle.model.specs.House.{Command, House, Plain, house_at, set_house}
 use Rattle.model.specs.Device.{Device, stopped}
-use Rattle.model.specs.Run.{Engine, Event, on, said, World, Ran, ran, Item, power, power_stops, whole, stops, falls, flag, set_flag, not_up, proper, world_at, set_world, no_world, powered, dark, woken, runs, fell_as, ran_as, worlds_after, Right, so_many, new_world, running}
+use Rattle.model.specs.Run.{Engine, on, said, World, Ran, ran, Item, power, power_stops, whole, stops, falls, flag, set_flag, not_up, proper, world_at, set_world, no_world, powered, dark, woken, fell_as, ran_as, worlds_after, Right, so_many, new_world, running}
 use Rattle.model.specs.Promise.{peer, from_bytes, May, Mid, first_house}
 use Rattle.house.proofs.Course.{Course, acts, whole_run, cut_run}
 use Rattle.house.proofs.Places.{world_same, world_other, world_back, worlds_count, house_same, house_other, house_back, houses_count, flag_same, flag_other, flag_back, flags_count, flag_below, and_left, and_right, start_world, start_house, start_flag, count_many}

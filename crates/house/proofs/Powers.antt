@@ -1,21 +1,21 @@
 -- Power-up: which way the definition goes, from the tests of the code.
-use Rattle.std.proofs.Common.{◌≡◌, ℕ, ◌+◌, ◌-◌, ◌*◌, ◌<◌, ◌≤◌, Bool, true, false, ◌&&◌, ltb, leb, ◌⊎◌, List, [], ◌∷◌, length, get_or, take, drop, sym, refl, ap, ◌∙◌, inl, inr, arith}
+use Rattle.std.proofs.Common.{Result, IsOk, OnOk, ◌↔◌, ◌≡◌, ℕ, ◌+◌, ◌-◌, ◌*◌, ◌<◌, ◌≤◌, Bool, true, false, ◌&&◌, ltb, leb, ◌⊎◌, List, [], ◌∷◌, length, get_or, take, drop, sym, refl, ap, ◌∙◌, inl, inr, arith}
 use mathlib.Core.Bool.{false≢true}
 use borrow.Rule.Slice.PartMut.{put_mid}
 use Rattle.std.proofs.lemmas.Bool.{eq-eqb, ne_eqb, lt-ltb, le-ltb, le-leb, lt-leb}
-use Rattle.model.specs.Mail.{pick}
 use Rattle.model.specs.Run.{read, done}
 use Rattle.pages.specs.Words.{words_in, part, patched}
 use Rattle.pages.specs.Geometry.{selector_pages, directory_pages, selector_place, table_place}
 use Rattle.pages.proofs.Words.{length_part, part_patched_after, part_patched_before}
 use Rattle.mailboxes.specs.Directory.{first_directory}
 use Rattle.mailboxes.proofs.Changes.{length_first_directory}
+use Rattle.mailboxes.proofs.Room.{ok_gives}
 use Rattle.house.specs.declared.phase.Phase.TheVariants.{ReadSelectors, ReadDirectory, Idle}
 use Rattle.house.specs.Memory.{memory_len, area_of}
 use Rattle.house.specs.Machine.{refuse, go, powered_up, first_house_made, header_read, selectors_read, directory_read, with_selectors}
 use Rattle.house.specs.Does.{directory_asked}
 use Rattle.house.proofs.Touches.{selector_words_most}
-use Rattle.house.proofs.Writes.{lent_part, put_part}
+use Rattle.house.proofs.Writes.{lent_range, put_range}
 
 -- power
 module _ (c n P : ℕ) (m : List ℕ) (long : length m ≡ 262144) where
@@ -34,19 +34,18 @@ module _ (c n P : ℕ) (m : List ℕ) (long : length m ≡ 262144) where
   power_no_size a b s = rw (eq-eqb (length m) memory_len long, lt-ltb c n a, le-leb n 16 b, s)
 
 -- the first directory, written over lent words behind a header
-pub first_written : (m m₁ hs : List ℕ) (n d : ℕ) (r : Bool) (new : List ℕ) → length m ≡ 262144 → d ≡ n → 896 ≤ d → d ≤ 197504 → length hs ≡ 7 → m₁ ≡ patched m 64 hs →
-    r ≡ leb 876 (length (take (2272 + d - 2272) (drop 2272 m₁))) →
-    new ≡ pick r (first_directory (take (2272 + d - 2272) (drop 2272 m₁))) (take (2272 + d - 2272) (drop 2272 m₁)) →
-    put_mid 2272 (2272 + d - 2272) m₁ new ≡ patched (patched m 64 hs) 2272 (first_directory (part m 2272 n))
-first_written m m₁ hs n d r new long is some most seven e f w =
-    let old : List ℕ = take (2272 + d - 2272) (drop 2272 m₁) in
+pub first_written : {E : Type 0} (m m₁ hs : List ℕ) (n b e : ℕ) (r : Result (Unit {0}) E) (new : List ℕ) → length m ≡ 262144 → b ≡ 2272 → e ≡ 2272 + n → 3168 ≤ e → e ≤ 199776 → length hs ≡ 7 → m₁ ≡ patched m 64 hs →
+    IsOk r ↔ (876 ≤ length (take (e - b) (drop b m₁))) →
+    OnOk r (new ≡ first_directory (take (e - b) (drop b m₁))) →
+    put_mid b (e - b) m₁ new ≡ patched (patched m 64 hs) 2272 (first_directory (part m 2272 n))
+first_written m m₁ hs n b e r new long start end some most seven head f w =
+    let old : List ℕ = take (e - b) (drop b m₁) in
     let lent : old ≡ part m 2272 n =
-    lent_part m₁ 2272 d n is ∙ ap (λ l. part l 2272 n) e ∙ part_patched_after m 64 hs 2272 n (omega arith) (omega arith) in
+    lent_range m₁ b e 2272 n start end ∙ ap (λ l. part l 2272 n) head ∙ part_patched_after m 64 hs 2272 n (omega arith) (omega arith) in
     let size : length (part m 2272 n) ≡ n = length_part m 2272 n (omega arith) in
-    let fits : r ≡ true = f ∙ le-leb 876 (length old) (omega (arith, ap length lent, size)) in
-    let first : new ≡ first_directory (part m 2272 n) = w ∙ ap (λ t. pick t (first_directory old) old) fits ∙ ap first_directory lent in
-    put_part m₁ 2272 d new (ap length first ∙ length_first_directory (part m 2272 n) (omega arith) ∙ size ∙ sym is)
-    ∙ ap (λ l. patched m₁ 2272 l) first ∙ ap (λ l. patched l 2272 (first_directory (part m 2272 n))) e
+    let first : new ≡ first_directory (part m 2272 n) = ok_gives r (f.1 (omega (arith, ap length lent, size))) w ∙ ap first_directory lent in
+    put_range m₁ b e 2272 n new start end (ap length first ∙ length_first_directory (part m 2272 n) (omega arith) ∙ size)
+    ∙ ap (λ l. patched m₁ 2272 l) first ∙ ap (λ l. patched l 2272 (first_directory (part m 2272 n))) head
 
 -- the header
 module _ (P : ℕ) (p m : List ℕ) where
@@ -100,10 +99,8 @@ module _ (P t : ℕ) (p m : List ℕ) where
   directory_last h k = rw (lt-ltb t (directory_pages P) h, le-ltb (t + 1) (directory_pages P) k)
 
 -- the header's words, read from a page
-pub header_loaded : (p : List ℕ) (r : Bool) (old new : List ℕ) → length p ≡ 512 → r ≡ leb 256 (length p) → new ≡ pick r (words_in 32 p) old → new ≡ words_in 32 p
-header_loaded p r old new long f w =
-    let fits : r ≡ true = f ∙ le-leb 256 (length p) (omega arith) in
-    w ∙ ap (λ t. pick t (words_in 32 p) old) fits
+pub header_loaded : {E : Type 0} (p : List ℕ) (r : Result (Unit {0}) E) (new : List ℕ) → length p ≡ 512 → IsOk r ↔ (256 ≤ length p) → OnOk r (new ≡ words_in 32 p) → new ≡ words_in 32 p
+header_loaded p r new long f w = ok_gives r (f.1 (omega arith)) w
 
 -- of two tests that do not both hold, the first fails where the second holds
 pub no_area : (a b : Bool) → b ≡ true → (a && b) ≡ false → a ≡ false

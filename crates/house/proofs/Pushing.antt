@@ -81,7 +81,7 @@ take_next [] (suc n) x rest e = let l = ap length e in absurd (omega arith)
 take_next (y ∷ ys) zero x rest e = ap (λ z. z ∷ []) (ap (λ l. get_or l 0 y) e)
 take_next (y ∷ ys) (suc n) x rest e = ap (λ z. y ∷ z) (take_next ys n x rest e)
 
-added_append : {A : Type 0} (f : A → ℕ) (xs ys : List A) → added_up f (xs ++ ys) ≡ added_up f xs + added_up f ys
+pub added_append : {A : Type 0} (f : A → ℕ) (xs ys : List A) → added_up f (xs ++ ys) ≡ added_up f xs + added_up f ys
 added_append f [] ys = omega arith
 added_append f (x ∷ xs) ys = let r = added_append f xs ys in omega arith
 

@@ -1,19 +1,18 @@
 -- Registers and records that a new person or box writes, as the definition has them.
-use Rattle.std.proofs.Common.{◌≡◌, ℕ, ◌+◌, ◌-◌, ◌*◌, ◌<◌, ◌≤◌, Bool, true, false, not, leb, List, [], ◌∷◌, length, take, drop, set, sym, refl, ap, ◌∙◌, arith}
+use Rattle.std.proofs.Common.{Result, is_ok, OnOk, ◌≡◌, ℕ, ◌+◌, ◌-◌, ◌*◌, ◌<◌, ◌≤◌, Bool, true, false, not, leb, List, [], ◌∷◌, length, take, drop, set, sym, refl, ap, ◌∙◌, arith}
 use borrow.Rule.Slice.PartMut.{put_mid}
 use Rattle.std.proofs.lemmas.Bool.{and_parts, leb-true, lt-leb, le-leb}
-use Rattle.model.specs.Mail.{pick}
 use Rattle.pages.specs.Words.{part, patched}
 use Rattle.pages.specs.Geometry.{directory_pages}
 use Rattle.pages.proofs.Words.{length_part, length_patched, set_is_patched}
 use Rattle.mailboxes.specs.Directory.{with_person, with_box}
 use Rattle.mailboxes.specs.Room.{room_for}
 use Rattle.mailboxes.proofs.Writes.{set_next}
-use Rattle.mailboxes.proofs.Room.{room_from}
+use Rattle.mailboxes.proofs.Room.{room_from, ok_gives}
 use Rattle.mailboxes.proofs.Changes.{length_with_person, length_with_box}
 use Rattle.house.specs.Memory.{boxes_count, weight_of}
 use Rattle.house.specs.Machine.{no_room}
-use Rattle.house.proofs.Writes.{lent_part, put_part}
+use Rattle.house.proofs.Writes.{lent_range, put_range}
 
 -- what room there is
 pub room_says : (P more : ℕ) (m : List ℕ) → no_room P more m ≡ false → (weight_of m + more ≤ 128 * P) × (864 + 12 * (boxes_count m + 1) ≤ 64 * directory_pages P)
@@ -56,28 +55,41 @@ box_registers l b w x long =
     ∙ ap (λ r. set r 6 x) (set_is_patched (patched l 67 (b ∷ [])) 70 w (omega arith))
     ∙ set_is_patched (patched (patched l 67 (b ∷ [])) 70 (w ∷ [])) 6 x (omega arith)
 
+-- which house it is, and that nothing is to be shown
+pub identity_registers : (l : List ℕ) (a b d e : ℕ) → length l ≡ 262144 → set (set (set (set l 3 a) 4 b) 5 d) 6 e ≡ patched l 3 (a ∷ b ∷ d ∷ e ∷ [])
+identity_registers l a b d e long =
+    ap (λ r. set (set (set r 4 b) 5 d) 6 e) (set_is_patched l 3 a (omega arith))
+    ∙ ap (λ r. set (set r 5 d) 6 e) (set_next l 3 (a ∷ []) 4 b refl (omega arith))
+    ∙ ap (λ r. set r 6 e) (set_next l 3 (a ∷ b ∷ []) 5 d refl (omega arith))
+    ∙ set_next l 3 (a ∷ b ∷ d ∷ []) 6 e refl (omega arith)
+
 -- a record, written over lent words
-module _ (m : List ℕ) (n d : ℕ) (long : length m ≡ 262144) (is : d ≡ n) (most : d ≤ 197504) (r : Bool) (new : List ℕ) where
+module _ {E : Type 0} (m : List ℕ) (n b e : ℕ) (long : length m ≡ 262144) (start : b ≡ 2272) (end : e ≡ 2272 + n) (most : e ≤ 199776) (r : Result (Unit {0}) E) (new : List ℕ) where
+  pub room_there : (boxes a : ℕ) (nm : List ℕ) → a < 64 → length nm ≤ 64 → 864 + 12 * (boxes + 1) ≤ n →
+      is_ok r ≡ room_for (length (take (e - b) (drop b m))) boxes a nm → is_ok r ≡ true
+  room_there boxes a nm few short room f =
+      let old : List ℕ = take (e - b) (drop b m) in
+      let size = ap length (lent_range m b e 2272 n start end) ∙ length_part m 2272 n (omega arith) in
+      f ∙ room_from (length old) boxes a nm few short (omega arith)
+
   pub person_written : (people boxes : ℕ) (nm : List ℕ) → people < 64 → length nm ≤ 64 → 864 + 12 * (boxes + 1) ≤ n →
-      r ≡ room_for (length (take (2272 + d - 2272) (drop 2272 m))) boxes people nm →
-      new ≡ pick r (with_person people boxes (take (2272 + d - 2272) (drop 2272 m)) nm) (take (2272 + d - 2272) (drop 2272 m)) →
-      put_mid 2272 (2272 + d - 2272) m new ≡ patched m 2272 (with_person people boxes (part m 2272 n) nm)
+      is_ok r ≡ room_for (length (take (e - b) (drop b m))) boxes people nm →
+      OnOk r (new ≡ with_person people boxes (take (e - b) (drop b m)) nm) →
+      put_mid b (e - b) m new ≡ patched m 2272 (with_person people boxes (part m 2272 n) nm)
   person_written people boxes nm few short room f w =
-      let old : List ℕ = take (2272 + d - 2272) (drop 2272 m) in
-      let lent : old ≡ part m 2272 n = lent_part m 2272 d n is in
+      let old : List ℕ = take (e - b) (drop b m) in
+      let lent : old ≡ part m 2272 n = lent_range m b e 2272 n start end in
       let size : length (part m 2272 n) ≡ n = length_part m 2272 n (omega arith) in
-      let fits : r ≡ true = f ∙ room_from (length old) boxes people nm few short (omega (arith, ap length lent, size)) in
-      let put : new ≡ with_person people boxes (part m 2272 n) nm = w ∙ ap (λ t. pick t (with_person people boxes old nm) old) fits ∙ ap (λ o. with_person people boxes o nm) lent in
-      put_part m 2272 d new (ap length put ∙ length_with_person people boxes (part m 2272 n) nm few (omega arith) ∙ size ∙ sym is) ∙ ap (patched m 2272) put
+      let put : new ≡ with_person people boxes (part m 2272 n) nm = ok_gives r (room_there boxes people nm few short room f) w ∙ ap (λ o. with_person people boxes o nm) lent in
+      put_range m b e 2272 n new start end (ap length put ∙ length_with_person people boxes (part m 2272 n) nm few (omega arith) ∙ size) ∙ ap (patched m 2272) put
 
   pub box_written : (boxes a : ℕ) (nm : List ℕ) → a < 64 → length nm ≤ 64 → 864 + 12 * (boxes + 1) ≤ n →
-      r ≡ room_for (length (take (2272 + d - 2272) (drop 2272 m))) boxes a nm →
-      new ≡ pick r (with_box boxes (take (2272 + d - 2272) (drop 2272 m)) a nm) (take (2272 + d - 2272) (drop 2272 m)) →
-      put_mid 2272 (2272 + d - 2272) m new ≡ patched m 2272 (with_box boxes (part m 2272 n) a nm)
+      is_ok r ≡ room_for (length (take (e - b) (drop b m))) boxes a nm →
+      OnOk r (new ≡ with_box boxes (take (e - b) (drop b m)) a nm) →
+      put_mid b (e - b) m new ≡ patched m 2272 (with_box boxes (part m 2272 n) a nm)
   box_written boxes a nm few short room f w =
-      let old : List ℕ = take (2272 + d - 2272) (drop 2272 m) in
-      let lent : old ≡ part m 2272 n = lent_part m 2272 d n is in
+      let old : List ℕ = take (e - b) (drop b m) in
+      let lent : old ≡ part m 2272 n = lent_range m b e 2272 n start end in
       let size : length (part m 2272 n) ≡ n = length_part m 2272 n (omega arith) in
-      let fits : r ≡ true = f ∙ room_from (length old) boxes a nm few short (omega (arith, ap length lent, size)) in
-      let put : new ≡ with_box boxes (part m 2272 n) a nm = w ∙ ap (λ t. pick t (with_box boxes old a nm) old) fits ∙ ap (λ o. with_box boxes o a nm) lent in
-      put_part m 2272 d new (ap length put ∙ length_with_box boxes (part m 2272 n) a nm (omega arith) ∙ size ∙ sym is) ∙ ap (patched m 2272) put
+      let put : new ≡ with_box boxes (part m 2272 n) a nm = ok_gives r (room_there boxes a nm few short room f) w ∙ ap (λ o. with_box boxes o a nm) lent in
+      put_range m b e 2272 n new start end (ap length put ∙ length_with_box boxes (part m 2272 n) a nm (omega arith) ∙ size) ∙ ap (patched m 2272) put

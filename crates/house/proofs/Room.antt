@@ -1,21 +1,24 @@
 -- Room for one person or one box more: what the machine's test says of the weight, and that the weight decides alone.
-use Rattle.std.proofs.Common.{◌≡◌, ℕ, zero, suc, ◌+◌, ◌*◌, ◌<◌, ◌≤◌, Bool, true, false, not, ◌&&◌, leb, List, [], ◌∷◌, ◌++◌, length, get_or, sym, refl, ap, ◌∙◌, subst, inl, inr, arith, length-append, le-leb, leb-false, leb-true}
+use Rattle.std.proofs.Common.{◌≡◌, ℕ, zero, suc, ◌+◌, ◌*◌, ◌<◌, ◌≤◌, Bool, true, false, leb, List, [], ◌∷◌, ◌++◌, length, get_or, sym, refl, ap, ◌∙◌, subst, inl, inr, arith, length-append, le-leb, leb-false, leb-true}
 use mathlib.Core.Bool.{false≢true}
 use native.Mathlib.Decide.{ℕ_discrete}
 use Rattle.std.proofs.lemmas.Bool.{cases_Bool}
 use Rattle.model.specs.Mail.{every, each, those, added_up, in_bytes}
-use Rattle.model.specs.House.{House, Person, Way, person_at, set_person, with_people, with_boxes, change_boxes, new_one, at_first, letters_weight, person_weight, weight}
-use Rattle.model.specs.Run.{World, so_many}
+use Rattle.model.specs.House.{House, Person, person_at, set_person, with_people, with_boxes, change_boxes, new_one, at_first, letters_weight, person_weight, weight}
+use Rattle.model.specs.Run.{World}
 use Rattle.pages.specs.Geometry.{directory_pages}
 use Rattle.pages.proofs.Geometry.{boxes_fit}
 use Rattle.mailboxes.specs.Directory.{count_up, owns, box_of, person_of, house_of, Sound}
-use Rattle.mailboxes.proofs.Weight.{house_weight}
+use Rattle.model.proofs.Places.{every_append}
+use Rattle.mailboxes.proofs.Weight.{house_weight, ways_weigh}
 use Rattle.mailboxes.proofs.People.{person_there}
 use Rattle.house.specs.declared.phase.Phase.TheVariants.{Idle}
 use Rattle.house.specs.Memory.{boxes_count, weight_of}
 use Rattle.house.specs.Machine.{no_room}
 use Rattle.house.proofs.Places.{and_left, and_right}
+use Rattle.house.proofs.Pushing.{added_append}
 use Rattle.house.proofs.Regions.{length_dir}
+use Rattle.house.proofs.Registers.{room_says}
 use Rattle.house.proofs.Rest.{FewBoxes, Up}
 use Rattle.house.proofs.Counts.{boxes_is, weight_is, people_there}
 
@@ -28,11 +31,6 @@ empty_boxes dir (i ∷ is) = omega (arith, empty_boxes dir is)
 person_weighs : (many : ℕ) (dir : List ℕ) (a : ℕ) → person_weight (person_of many dir a) ≡ 520 + 256 * length (person_of many dir a).boxes
 unfolding person_of in_bytes
 person_weighs many dir a = omega (arith, empty_boxes dir (those (owns dir a) (count_up 0 many)))
-
-ways_weigh : (n : ℕ) → added_up {A = Way} (λ v. 64 + added_up (λ o. 256 + length o.bytes) v.waiting) (so_many n (record { sent = 0; waiting = [] })) ≡ 64 * n
-unfolding so_many
-ways_weigh zero = refl
-ways_weigh (suc n) = omega (arith, ways_weigh n)
 
 abbrev few_of : Person → Bool
 few_of p = leb (length p.boxes) 256
@@ -74,13 +72,9 @@ module _ (n people many : ℕ) (dir : List ℕ) (sound : Sound people many dir) 
       omega (arith, house_weight n people many dir sound, ways_weigh n, people_lighter many dir people 0 a few (omega arith) (omega arith) f')
 
 -- What one person or one box more weighs.
-added_up_append : {A : Type 0} (f : A → ℕ) (xs ys : List A) → added_up f (xs ++ ys) ≡ added_up f xs + added_up f ys
-added_up_append f [] ys = omega arith
-added_up_append f (x ∷ xs) ys = omega (arith, added_up_append f xs ys)
-
 pub joined_weight : (h : House) (nm : List ℕ) → weight (with_people h (h.people ++ record { name = nm; boxes = at_first; rules = [] } ∷ [])) ≡ weight h + 776
 unfolding in_bytes
-joined_weight h nm = omega (arith, added_up_append person_weight h.people (record { name = nm; boxes = at_first; rules = [] } ∷ []))
+joined_weight h nm = omega (arith, added_append person_weight h.people (record { name = nm; boxes = at_first; rules = [] } ∷ []))
 
 set_person_weight : (f : Person → ℕ) (ps : List Person) (a : ℕ) (q : Person) → a < length ps → added_up f (set_person ps a q) + f (person_at ps a) ≡ added_up f ps + f q
 unfolding set_person person_at
@@ -94,14 +88,10 @@ boxed_weight h a nm l =
     omega (
       arith,
       set_person_weight person_weight h.people a (with_boxes p (p.boxes ++ new_one nm ∷ [])) l,
-      added_up_append (λ b. 256 + letters_weight b.letters) p.boxes (new_one nm ∷ []),
+      added_append (λ b. 256 + letters_weight b.letters) p.boxes (new_one nm ∷ []),
     )
 
 -- Nobody gets more boxes than they may.
-every_append : {A : Type 0} (p : A → Bool) (xs ys : List A) → every p xs ≡ true → every p ys ≡ true → every p (xs ++ ys) ≡ true
-every_append p [] ys h k = k
-every_append p (x ∷ xs) ys h k = rw (and_left (p x) _ h) (every_append p xs ys (and_right (p x) _ h) k)
-
 pub joined_few : (h : House) (nm : List ℕ) → FewBoxes h → FewBoxes (with_people h (h.people ++ record { name = nm; boxes = at_first; rules = [] } ∷ []))
 joined_few h nm f = every_append few_of h.people (record { name = nm; boxes = at_first; rules = [] } ∷ []) f refl
 
@@ -116,19 +106,6 @@ boxed_few h a nm l f =
     let bs = (person_at h.people a).boxes in
     every_set_person few_of h.people a (with_boxes (person_at h.people a) (bs ++ new_one nm ∷ [])) f
     (le-leb (length (bs ++ new_one nm ∷ [])) 256 (omega (arith, length-append bs (new_one nm ∷ []))))
-
--- The machine's test. With room, the weight stays within the bound, and the directory has a place for the box.
-pub room_parts : (P more : ℕ) (m : List ℕ) → no_room P more m ≡ false → (weight_of m + more ≤ 128 * P) × (864 + 12 * (boxes_count m + 1) ≤ 64 * directory_pages P)
-unfolding no_room
-room_parts P more m h =
-    let t = not_false (leb (weight_of m + more) (128 * P) && leb (864 + 12 * (boxes_count m + 1)) (64 * directory_pages P)) h in (
-      leb-true (weight_of m + more) (128 * P) (and_left (leb (weight_of m + more) (128 * P)) _ t),
-      leb-true (864 + 12 * (boxes_count m + 1)) (64 * directory_pages P) (and_right (leb (weight_of m + more) (128 * P)) _ t),
-    )
-  where
-    not_false : (b : Bool) → not b ≡ false → b ≡ true
-    not_false true e = refl
-    not_false false e = absurd (false≢true (sym e))
 
 -- A box of 256 bytes weighs as much as half a page, so where the weight stays within the bound the directory has a place, too.
 pub no_room_heavy : (P more : ℕ) (m : List ℕ) → boxes_count m + 1 ≤ 16384 → 256 * (boxes_count m + 1) ≤ weight_of m + more → no_room P more m ≡ true → 128 * P < weight_of m + more
@@ -146,7 +123,7 @@ module _ (P n : ℕ) (h : House) (v : World) (U : Up P n h v) where
   pub room_there : (more : ℕ) → no_room P more v.memory ≡ false →
       (weight h + more ≤ 128 * P) × (864 + 12 * (get_or U.header 3 0 + 1) ≤ 64 * directory_pages P) × (864 + 12 * (get_or U.header 3 0 + 1) ≤ length U.dir)
   room_there more e =
-      let r = room_parts P more v.memory e in
+      let r = room_says P more v.memory e in
       let a : weight h + more ≤ 128 * P = rw (weight_is P n h v U) at r.0 in
       let b : 864 + 12 * (get_or U.header 3 0 + 1) ≤ 64 * directory_pages P = rw (boxes_is P n h v U) at r.1 in
       (a, b, subst (λ k. 864 + 12 * (get_or U.header 3 0 + 1) ≤ k) (sym (length_dir P Idle (U.house_number ∷ n ∷ P ∷ U.shown ∷ []) U.header U.counting U.coming U.dir v.memory U.memory_is)) b)

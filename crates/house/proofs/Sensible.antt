@@ -8,6 +8,7 @@ use Rattle.house.specs.Does.{Ready}
 pub record Fits (m : List ℕ) : Type 0 where
   pub least : 256 ≤ pages_count m
   pub most : pages_count m ≤ 1048576
+  pub long : length m ≡ 262144
   pub ready : Ready (pages_count m) m
 
 module _ (m : List ℕ) where
@@ -23,8 +24,8 @@ module _ (m : List ℕ) where
       record {
         least = leb-true 256 (pages_count m) least;
         most = leb-true (pages_count m) 1048576 most;
+        long = eqb-true (length m) memory_len long;
         ready = record {
-          long = eqb-true (length m) memory_len long;
           houses_few = leb-true (houses_count m) 16 houses;
           area_known = ltb-true (area_of m) 2 area;
           people_few = leb-true (people_of m) 64 people;
@@ -36,7 +37,7 @@ module _ (m : List ℕ) where
   unfolding sensible
   fits_sensible f =
       and_from (eqb (length m) memory_len && (leb 256 (pages_count m) && leb (pages_count m) 1048576)) ((leb (houses_count m) 16 && ltb (area_of m) 2) && (leb (people_of m) 64 && leb (864 + 12 * boxes_count m) (64 * directory_pages (pages_count m))))
-      (and_from (eqb (length m) memory_len) (leb 256 (pages_count m) && leb (pages_count m) 1048576) (eq-eqb (length m) memory_len f.ready.long)
+      (and_from (eqb (length m) memory_len) (leb 256 (pages_count m) && leb (pages_count m) 1048576) (eq-eqb (length m) memory_len f.long)
       (and_from (leb 256 (pages_count m)) (leb (pages_count m) 1048576) (le-leb 256 (pages_count m) f.least) (le-leb (pages_count m) 1048576 f.most)))
       (and_from (leb (houses_count m) 16 && ltb (area_of m) 2) (leb (people_of m) 64 && leb (864 + 12 * boxes_count m) (64 * directory_pages (pages_count m)))
       (and_from (leb (houses_count m) 16) (ltb (area_of m) 2) (le-leb (houses_count m) 16 f.ready.houses_few) (lt-ltb (area_of m) 2 f.ready.area_known))

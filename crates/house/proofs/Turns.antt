@@ -1,21 +1,24 @@
 -- Which step the definition takes, from the phase and the command that the code finds; and what is refused.
-use Rattle.std.proofs.Common.{◌≡◌, ℕ, suc, ◌<◌, ◌≤◌, true, false, ◌&&◌, eqb, ltb, leb, List, [], ◌∷◌, length, get_or, Some, None, Option, refl, ap, arith, Bor}
-use Rattle.std.proofs.lemmas.Bool.{and_parts, and_from, leb-true, eq-eqb, ne_eqb, lt-ltb}
+use Rattle.std.proofs.Common.{◌≡◌, ℕ, suc, ◌<◌, ◌≤◌, true, false, eqb, ltb, List, [], ◌∷◌, length, get_or, Some, None, Option, is_some, IfSome, MatchOption, sym, refl, ap, ◌∙◌, subst, arith, Bor}
+use Rattle.std.proofs.lemmas.Bool.{and_parts, and_from, eq-eqb, ne_eqb, lt-ltb}
+use Rattle.std.specs.Array.{IsWholeChunk}
 use Rattle.std.specs.Option.{option_map}
-use Rattle.model.specs.Mail.{every, all_bytes}
+use Rattle.model.specs.Mail.{every}
 use Rattle.model.specs.Mail.{Test, Rule}
 use Rattle.model.specs.House.{Command, join, hand_in, new_box, drop_box, list, get, set_mark, to_box, clear, rules, find, push, a_name, fits}
 use Rattle.model.specs.Device.{a_page}
 use Rattle.model.specs.Promise.{Said}
 use Rattle.model.specs.Run.{said, page, next}
-use Rattle.commands.specs.declared.Command.{Command as Lent}
 use Rattle.commands.specs.declared.Command.TheVariants.{Join, HandIn, Boxes, NewBox, DropBox, List as ListBox, Get, SetMark, ToBox, Clear, Rules, Find, Push}
-use Rattle.commands.specs.Meaning.{meaning}
+use Rattle.commands.specs.Meaning.{Lent, meaning}
 use Rattle.commands.specs.Reader.{command_of, whole, read_rules, read_test}
 use Rattle.commands.specs.Reads.{Reads}
+use Rattle.mailboxes.proofs.Names.{name_short}
+use Rattle.pages.specs.declared.places.Geometry.{Geometry}
 use Rattle.house.specs.declared.phase.Phase.{Phase}
 use Rattle.house.specs.declared.phase.Phase.TheVariants.{Off, ReadHeader, ReadSelectors, ReadDirectory, Idle, ShowBoxes, WriteTable, WriteSelectors, WriteHeader, FlushHeader, Committed, Shown}
 use Rattle.house.specs.Memory.{pages_count, phase_of, sensible}
+use Rattle.house.specs.Does.{Ready}
 use Rattle.house.specs.Machine.{refuse, obeys, said_told, page_told, next_told, stepped}
 
 -- what the reader answers
@@ -62,17 +65,13 @@ module _ (P : ℕ) (m : List ℕ) (o : Option Command) where
   not_known (Push d) e j b n = ap (λ x. obeys P x m) (command_some o (push d) e)
 
 -- names that were read are short
-short_name : (nm : List ℕ) → a_name nm ≡ true → length nm ≤ 64
-short_name nm h =
-    leb-true (length nm) 64 (and_parts (leb 1 (length nm)) (leb (length nm) 64) (and_parts (leb 1 (length nm) && leb (length nm) 64) (all_bytes nm) h).0).1
-
 pub join_short : Reads → (text nm : List ℕ) → command_of text ≡ Some (join nm) → length nm ≤ 64
 unfolding Reads Said fits
-join_short reads text nm e = short_name nm ((reads text).0 (join nm) e).1
+join_short reads text nm e = name_short nm ((reads text).0 (join nm) e).1
 
 pub new_box_short : Reads → (text : List ℕ) (a : ℕ) (nm : List ℕ) → command_of text ≡ Some (new_box a nm) → length nm ≤ 64
 unfolding Reads Said fits
-new_box_short reads text a nm e = short_name nm (and_parts (ltb a 64) (a_name nm) ((reads text).0 (new_box a nm) e).1).1
+new_box_short reads text a nm e = name_short nm (and_parts (ltb a 64) (a_name nm) ((reads text).0 (new_box a nm) e).1).1
 
 -- lent bytes are bytes
 pub bytes_are : (bs : List ℕ) → ((i : ℕ) → get_or bs i 0 < 256) → every (λ b. ltb b 256) bs ≡ true
@@ -101,6 +100,10 @@ module _ (m : List ℕ) where
 
   pub page_taken : (P : ℕ) (ph : Phase) (p : List ℕ) → sensible m ≡ true → a_page p ≡ true → P ≡ pages_count m → ph ≡ phase_of m → stepped m (page p) ≡ page_told P ph p m
   page_taken P ph p s a e f = rw (s, a, e, f)
+
+  -- of a page that came as bytes
+  pub lent_page_taken : (P : ℕ) (ph : Phase) (p lent : List ℕ) → IsWholeChunk p lent 512 → ((i : ℕ) → get_or p i 0 < 256) → sensible m ≡ true → P ≡ pages_count m → ph ≡ phase_of m → stepped m (page p) ≡ page_told P ph lent m
+  lent_page_taken P ph p lent w b s e f = rw w.same (page_taken P ph p s (page_is p w.long b) e f)
 
   pub next_refused : sensible m ≡ false → stepped m next ≡ refuse 1 m
   next_refused s = rw s
@@ -154,3 +157,18 @@ next_out P WriteHeader m b t q h f c s = absurd (h refl)
 next_out P FlushHeader m b t q h f c s = absurd (f refl)
 next_out P Committed m b t q h f c s = absurd (c refl)
 next_out P Shown m b t q h f c s = absurd (s refl)
+
+-- what is known of a memory that has a geometry
+pub geometry_there : (m : List ℕ) (o : Option Geometry) (g : Geometry) → is_some o ≡ sensible m → IfSome o (λ x. (x.pages ≡ pages_count m) × Ready x.pages m) → o ≡ Some g →
+    (sensible m ≡ true) × ((g.pages ≡ pages_count m) × Ready g.pages m)
+geometry_there m o g k r e = (sym k ∙ ap is_some e, subst (λ x. IfSome x (λ y. (y.pages ≡ pages_count m) × Ready y.pages m)) e r)
+
+pub no_geometry : (m : List ℕ) (o : Option Geometry) → is_some o ≡ sensible m → o ≡ None → sensible m ≡ false
+no_geometry m o k e = sym k ∙ ap is_some e
+
+-- whether lent bytes are a page
+pub whole_page : (p : List ℕ) (o : Option (Bor (List ℕ))) (y : Bor (List ℕ)) → MatchOption o (length p ≡ 512 → ⊥) (λ x. IsWholeChunk p x.now 512) → o ≡ Some y → IsWholeChunk p y.now 512
+whole_page p o y h e = subst (λ x. MatchOption x (length p ≡ 512 → ⊥) (λ z. IsWholeChunk p z.now 512)) e h
+
+pub not_whole : (p : List ℕ) (o : Option (Bor (List ℕ))) → MatchOption o (length p ≡ 512 → ⊥) (λ x. IsWholeChunk p x.now 512) → o ≡ None → length p ≡ 512 → ⊥
+not_whole p o h e = subst (λ x. MatchOption x (length p ≡ 512 → ⊥) (λ z. IsWholeChunk p z.now 512)) e h

@@ -1,9 +1,8 @@
 -- The promise over join, boxes and new box: what is owed of one house, put together, and from it the whole.
-use Rattle.std.proofs.Common.{◌≡◌, ℕ, zero, suc, ◌<◌, ◌≤◌, Bool, true, false, List, [], length, sym, refl, ap, ◌∙◌, subst}
-use Rattle.model.specs.House.{Command, House, Plain, house_at}
-use Rattle.model.specs.Device.{Device, stopped}
-use Rattle.model.specs.Run.{Engine, World, new_world}
-use Rattle.model.specs.Promise.{Whole, first_house}
+use Rattle.std.proofs.Common.{ℕ, ◌≤◌, Bool, List}
+use Rattle.model.specs.House.{Plain, house_at}
+use Rattle.model.specs.Run.{World}
+use Rattle.model.specs.Promise.{Whole}
 use Rattle.house.specs.Machine.{own}
 use Rattle.house.proofs.Houses.{HouseProof, all_right}
 use Rattle.house.proofs.Rest.{Down, Up}

@@ -1,5 +1,5 @@
 -- The same promise by the frame that knows talks by radio (Pairs): what is owed of one house and of two that talk, put together, and from it the whole.
-use Rattle.std.proofs.Common.{◌≡◌, ℕ, ◌≤◌, Bool, true, List}
+use Rattle.std.proofs.Common.{◌≡◌, ℕ, ◌≤◌, true}
 use mathlib.Core.Bool.{false≢true}
 use Rattle.model.specs.House.{push}
 use Rattle.model.specs.Known.{also, nothing}

@@ -1,5 +1,5 @@
 -- What the functions of a step promise: that they do a step of the definition, and which memories they are made for.
-use Rattle.std.specs.Prelude.{◌≡◌, ℕ, ◌+◌, ◌*◌, ◌<◌, ◌≤◌, List, length, Ok, Err, Result, nat_lt}
+use Rattle.std.specs.Prelude.{◌≡◌, ℕ, ◌+◌, ◌*◌, ◌<◌, ◌≤◌, List, Ok, Err, Result, nat_lt}
 use Rattle.model.specs.Mail.{pick}
 use Rattle.model.specs.Run.{Step, read}
 use Rattle.pages.specs.Words.{patched}
@@ -25,7 +25,6 @@ told_result (Err refusal) = No (refusal_number refusal)
 
 -- a memory whose counts its regions have room for
 pub record Ready (P : ℕ) (m : List ℕ) : Type 0 where
-  pub long : length m ≡ 262144
   pub houses_few : houses_count m ≤ 16
   pub area_known : area_of m < 2
   pub people_few : people_of m ≤ 64

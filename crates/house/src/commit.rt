@@ -9,21 +9,22 @@ ghost use Rattle.house.specs.Machine.{touch_record, commit, table_written, selec
 ghost use Rattle.house.specs.Does.{Does, page_touched};
 
 use super::memory::{
-    AREA, COMING, COUNTING, DIRECTORY, HEADER, HEADER_WORDS, PAGE_LEN, PAGE_WORDS, RECORD_WORDS,
-    TO_SHOW, selector_words,
+    AREA, COMING, COUNTING, DIRECTORY, HEADER, HEADER_WORDS, Memory, TO_SHOW, coming_place,
+    selector_words, selectors_at,
 };
 use super::phase::Phase;
-use super::{Refusal, Told};
-use pages::bytes::store;
-use pages::places::Geometry;
-use pages::selectors::{bit, flip, next_touched};
+use super::{Row, Told};
+use pages::bytes::{WORD_BYTES, store};
+use pages::places::{Geometry, RECORD_WORDS};
+use pages::selectors::{next_touched, touch};
+use pages::{PAGE_LEN, PAGE_WORDS};
 
 // Words of a page, in the type of a place in the directory.
 const WORDS: u64 = PAGE_WORDS as u64;
 
 // The pages on which a record lies that begins at a word of the directory are to change.
-pub fn touch_record(memory: &mut [u64], geometry: &Geometry, at: u64)
-    requires { (length memory.old ≡ 262144) × (at < 262144) }
+pub fn touch_record(memory: &mut Memory, geometry: &Geometry, at: u64)
+    requires { at < 262144 }
     ensures { memory.new ≡ touch_record geometry.now.pages at memory.old }
 {
     touch_page(memory, geometry, at / WORDS);
@@ -31,28 +32,23 @@ pub fn touch_record(memory: &mut [u64], geometry: &Geometry, at: u64)
 }
 
 // The bit of a page that is to count is turned away from the one that counts, unless it has been already.
-fn touch_page(memory: &mut [u64], geometry: &Geometry, t: u64)
-    requires { length memory.old ≡ 262144 }
+fn touch_page(memory: &mut Memory, geometry: &Geometry, t: u64)
     ensures { memory.new ≡ page_touched geometry.now.pages t memory.old }
 {
     let words = selector_words(geometry);
-    let counts = bit(&memory[COUNTING..COUNTING + words], t);
-    let comes = bit(&memory[COMING..COMING + words], t);
-    if counts != comes {
-        return;
-    }
-    flip(&mut memory[COMING..COMING + words], t);
+    let (front, rest) = memory.split_at_mut(COMING);
+    touch(&front[COUNTING..COUNTING + words], &mut rest[..words], t);
 }
 
 // Writes the next touched page of the directory from one on, or else the first selector page.
-pub fn commit(memory: &mut [u64], geometry: &Geometry, from: u64, out: &mut [u8]) -> Told
-    requires { (length memory.old ≡ 262144) × ((area_of memory.old < 2) × (131072 ≤ length out.old)) }
+// Of a memory that was written to only this is needed further on: its area is one of the two.
+pub fn commit(memory: &mut Memory, geometry: &Geometry, from: u64, out: &mut Row) -> Told
+    requires { area_of memory.old < 2 }
     ensures { Does (commit geometry.now.pages from memory.old) result out.old memory.new out.new }
 {
-    let words = selector_words(geometry);
     let touched = next_touched(
-        &memory[COUNTING..COUNTING + words],
-        &memory[COMING..COMING + words],
+        selectors_at(memory, geometry, COUNTING),
+        selectors_at(memory, geometry, COMING),
         from,
         geometry.directory_pages(),
     );
@@ -63,37 +59,32 @@ pub fn commit(memory: &mut [u64], geometry: &Geometry, from: u64, out: &mut [u8]
 }
 
 // Writes a page of the directory onto the twin that is to count.
-fn write_table(memory: &mut [u64], geometry: &Geometry, t: u64, out: &mut [u8]) -> Told
-    requires { (length memory.old ≡ 262144) × ((t < directory_pages geometry.now.pages) × (131072 ≤ length out.old)) }
+fn write_table(memory: &mut Memory, geometry: &Geometry, t: u64, out: &mut Row) -> Told
+    requires { t < directory_pages geometry.now.pages }
     ensures { Does (table_written geometry.now.pages (Some t) memory.old) result out.old memory.new out.new }
 {
-    let words = selector_words(geometry);
-    let Some(place) = geometry.table_place(&memory[COMING..COMING + words], t) else {
-        return Told::No(Refusal::NoCommand.number());
-    };
+    let place = coming_place(memory, geometry, t);
     let at = DIRECTORY + PAGE_WORDS * t as usize;
-    store(&memory[at..at + PAGE_WORDS], out);
+    store(&memory[at..at + PAGE_WORDS], out).unwrap();
     Phase::WriteTable(t + 1).store(memory);
     Told::Write(place)
 }
 
-// Writes a selector page into the other area.
-fn write_selectors(memory: &mut [u64], geometry: &Geometry, q: u64, out: &mut [u8]) -> Told
-    requires { (length memory.old ≡ 262144) × ((area_of memory.old < 2) × ((q < selector_pages geometry.now.pages) × (131072 ≤ length out.old))) }
+// Writes a selector page into the other area. As in `write_table` the end is alike; what differs is what each promises.
+fn write_selectors(memory: &mut Memory, geometry: &Geometry, q: u64, out: &mut Row) -> Told
+    requires { (area_of memory.old < 2) × (q < selector_pages geometry.now.pages) }
     ensures { Does (selectors_written geometry.now.pages q memory.old) result out.old memory.new out.new }
 {
-    let Some(place) = geometry.selector_place(1 - memory[AREA], q) else {
-        return Told::No(Refusal::NoCommand.number());
-    };
+    let place = geometry.selector_place(1 - memory[AREA], q).unwrap();
     let at = COMING + PAGE_WORDS * q as usize;
-    store(&memory[at..at + PAGE_WORDS], out);
+    store(&memory[at..at + PAGE_WORDS], out).unwrap();
     Phase::WriteSelectors(q + 1).store(memory);
     Told::Write(place)
 }
 
 // The next selector page, or the flush before the header.
-pub fn selectors_next(memory: &mut [u64], geometry: &Geometry, q: u64, out: &mut [u8]) -> Told
-    requires { (length memory.old ≡ 262144) × ((area_of memory.old < 2) × (131072 ≤ length out.old)) }
+pub fn selectors_next(memory: &mut Memory, geometry: &Geometry, q: u64, out: &mut Row) -> Told
+    requires { area_of memory.old < 2 }
     ensures { Does (selectors_next geometry.now.pages q memory.old) result out.old memory.new out.new }
 {
     if q < geometry.selector_pages() {
@@ -103,7 +94,7 @@ pub fn selectors_next(memory: &mut [u64], geometry: &Geometry, q: u64, out: &mut
     Told::Flush
 }
 
-// Writes zeros.
+// Writes zeros: a function of its own, so that the contract says it in the definition's words.
 fn blank(bytes: &mut [u8])
     ensures { bytes.new ≡ zeros (length bytes.old) }
 {
@@ -111,40 +102,35 @@ fn blank(bytes: &mut [u8])
 }
 
 // The header says that the other area counts. Only the first half of its page means anything.
-pub fn write_header(memory: &mut [u64], out: &mut [u8]) -> Told
-    requires { (length memory.old ≡ 262144) × ((area_of memory.old < 2) × (131072 ≤ length out.old)) }
+pub fn write_header(memory: &mut Memory, out: &mut Row) -> Told
+    requires { area_of memory.old < 2 }
     ensures { Does (header_written memory.old) result out.old memory.new out.new }
 {
     memory[AREA] = 1 - memory[AREA];
-    store(&memory[HEADER..HEADER + HEADER_WORDS], out);
+    store(&memory[HEADER..HEADER + HEADER_WORDS], out).unwrap();
     blank(&mut out[PAGE_LEN / 2..PAGE_LEN]);
     Phase::FlushHeader.store(memory);
     Told::Write(0)
 }
 
 // What was to count counts.
-fn count_coming(memory: &mut [u64], geometry: &Geometry)
-    requires { length memory.old ≡ 262144 }
+fn count_coming(memory: &mut Memory, geometry: &Geometry)
     ensures { memory.new ≡ patched memory.old 96 (coming_of geometry.now.pages memory.old) }
 {
-    for i in 0..selector_words(geometry) {
-        memory[COUNTING + i] = memory[COMING + i];
-    }
+    memory.copy_within(COMING..COMING + selector_words(geometry), COUNTING);
 }
 
 // After the commit a number may be left to show.
-pub fn committed(memory: &mut [u64], geometry: &Geometry, out: &mut [u8]) -> Told
-    requires { (length memory.old ≡ 262144) × (131072 ≤ length out.old) }
+pub fn committed(memory: &mut Memory, geometry: &Geometry, out: &mut Row) -> Told
     ensures { Does (committed geometry.now.pages memory.old) result out.old memory.new out.new }
 {
-    let to_show = memory[TO_SHOW];
+    let to_show = memory[TO_SHOW].checked_sub(1);
     count_coming(memory, geometry);
-    if to_show == 0 {
+    let Some(number) = to_show else {
         Phase::Idle.store(memory);
         return Told::Done;
-    }
-    let number = to_show - 1;
-    out[0..8].copy_from_slice(&number.to_be_bytes());
+    };
+    out[..WORD_BYTES].copy_from_slice(&number.to_be_bytes());
     Phase::Shown.store(memory);
-    Told::Shows(8)
+    Told::Shows(WORD_BYTES as u64)
 }

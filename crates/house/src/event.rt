@@ -1,14 +1,23 @@
 // What a house is told, and how that is read off a kind and some bytes.
-ghost use Rattle.std.specs.Prelude.{◌≡◌, ◌<◌, ◌≤◌, length, take, drop, MatchOption};
+ghost use Rattle.std.specs.Prelude.{◌≡◌, ◌<◌, ◌≤◌, length, take, drop, MatchOption, MatchResult};
 ghost use Rattle.house.specs.Entry.{from_eight, event_of};
-ghost use Rattle.house.specs.Told.{event_meant};
+ghost use Rattle.house.specs.Told.{event_meant, kind_number};
 
-use super::kind;
+use pages::bytes::WORD_BYTES;
 
-#[derive(Clone, Copy)]
+// Which house it is: its number, how many houses there are, and how many pages it has.
+#[derive(Clone, Copy, PartialEq, Eq, Debug)]
+pub struct Identity {
+    pub house: u64,
+    pub houses: u64,
+    pub pages: u64,
+}
+
+// What a house is told.
+#[derive(Clone, Copy, PartialEq, Eq, Debug)]
 pub enum Event<'a> {
-    // Power is there: the house's number, how many houses there are, and how many pages it has.
-    Power(u64, u64, u64),
+    // Power is there.
+    Power(Identity),
     // A command was said.
     Said(&'a [u8]),
     // The page that was asked for.
@@ -21,45 +30,76 @@ pub enum Event<'a> {
     Lost,
 }
 
+// The kinds of event, in the order of their numbers.
+#[derive(Clone, Copy, PartialEq, Eq, Debug)]
+enum Kind {
+    Power,
+    Said,
+    Page,
+    Next,
+    Heard,
+    Lost,
+}
+
+// A number that stands for no kind.
+#[derive(Clone, Copy, PartialEq, Eq, Debug)]
+struct UnknownKind;
+
+impl TryFrom<u64> for Kind {
+    type Error = UnknownKind;
+
+    ghost try_from_gives = { λ number r. MatchResult r (λ kind. number ≡ kind_number kind) (λ e. 5 < number) };
+
+    fn try_from(number: u64) -> Result<Kind, UnknownKind> {
+        match number {
+            0 => Ok(Kind::Power),
+            1 => Ok(Kind::Said),
+            2 => Ok(Kind::Page),
+            3 => Ok(Kind::Next),
+            4 => Ok(Kind::Heard),
+            5 => Ok(Kind::Lost),
+            _ => Err(UnknownKind),
+        }
+    }
+}
+
 // The number that at most eight bytes spell, the highest first.
 fn number(bytes: &[u8]) -> u64
     requires { length bytes.now ≤ 8 }
     ensures { result ≡ from_eight 0 bytes.now }
 {
-    let mut n = 0;
-    for b in bytes {
-        n = 256 * n + u64::from(*b);
-    }
-    n
+    let mut word = [0; WORD_BYTES];
+    word[WORD_BYTES - bytes.len()..].copy_from_slice(bytes);
+    u64::from_be_bytes(word)
 }
 
 // Eight bytes from a place on, or as many as there are.
 fn eight_from(bytes: &[u8], from: usize) -> &[u8]
-    ensures { result.now ≡ take 8 (drop from bytes.now) }
+    ensures are { result.now ≡ take 8 (drop from bytes.now) }
+    ensures few { length result.now ≤ 8 }
 {
     let start = from.min(bytes.len());
-    let rest = &bytes[start..bytes.len()];
-    let count = rest.len().min(8);
-    &rest[0..count]
+    let rest = &bytes[start..];
+    &rest[..rest.len().min(WORD_BYTES)]
 }
 
 impl Event<'_> {
     // The event that a kind and some bytes tell; none where there is no such kind.
+    #[tactic(auto, unfolding(crate::specs::Entry::event_of))]
     pub fn of(kind: u64, bytes: &[u8]) -> Option<Event<'_>>
         ensures { MatchOption result (5 < kind) (λ e. (kind ≤ 5) × (event_meant e ≡ event_of kind bytes.now)) }
     {
-        match kind {
-            kind::POWER => Some(Event::Power(
-                number(eight_from(bytes, 0)),
-                number(eight_from(bytes, 8)),
-                number(eight_from(bytes, 16)),
-            )),
-            kind::SAID => Some(Event::Said(bytes)),
-            kind::PAGE => Some(Event::Page(bytes)),
-            kind::NEXT => Some(Event::Next),
-            kind::HEARD => Some(Event::Heard(bytes)),
-            kind::LOST => Some(Event::Lost),
-            _ => None,
+        match Kind::try_from(kind).ok()? {
+            Kind::Power => Some(Event::Power(Identity {
+                house: number(eight_from(bytes, 0)),
+                houses: number(eight_from(bytes, 8)),
+                pages: number(eight_from(bytes, 16)),
+            })),
+            Kind::Said => Some(Event::Said(bytes)),
+            Kind::Page => Some(Event::Page(bytes)),
+            Kind::Next => Some(Event::Next),
+            Kind::Heard => Some(Event::Heard(bytes)),
+            Kind::Lost => Some(Event::Lost),
         }
     }
 }

@@ -1,27 +1,38 @@
 // Which numbers of the memory hold what, and whether they make sense together.
-ghost use Rattle.std.specs.Prelude.{◌≡◌, ◌*◌, ◌≤◌, is_some, IfSome};
-ghost use Rattle.pages.specs.Geometry.{selector_pages, directory_pages};
-ghost use Rattle.house.specs.Memory.{pages_count, sensible};
+ghost use Rattle.std.specs.Prelude.{◌≡◌, ◌+◌, ◌*◌, ◌<◌, ◌≤◌, is_some, IfSome};
+ghost use Rattle.pages.specs.Words.{part};
+ghost use Rattle.pages.specs.Geometry.{selector_pages, directory_pages, table_place};
+ghost use Rattle.house.specs.Memory.{pages_count, coming_of, sensible};
 ghost use Rattle.house.specs.Does.{Ready};
 
-use pages::places::Geometry;
+use mailboxes::MOST_PEOPLE;
+use pages::places::{AREAS, BOXES_PLACE, Geometry, RECORD_WORDS};
+use pages::{PAGE_LEN, PAGE_WORDS};
+use std::ops::Range;
 
 // How many numbers a house's memory has.
 pub const MEMORY_LEN: usize = 262_144;
 
-// Registers: the phase takes the first three.
+pub type Memory = [u64; MEMORY_LEN];
+
+pub type Page = [u8; PAGE_LEN];
+
+// Registers, since a host lends the memory as one row of numbers: the phase takes the first three.
 pub const HOUSE: usize = 3;
 
 pub const HOUSES: usize = 4;
 
 pub const PAGES: usize = 5;
-// What is shown after a commit: 0 for nothing, or one more than the number.
+
+// The memory is numbers only, so what is shown after a commit is 0 for nothing, or one more than the number.
 pub const TO_SHOW: usize = 6;
 
-// The header as it will be written: its area, counts and weight.
+// The header as it will be written: its version, area, counts and weight.
 pub const HEADER: usize = 64;
 
 pub const HEADER_WORDS: usize = 32;
+
+pub const VERSION: usize = 64;
 
 pub const AREA: usize = 65;
 
@@ -38,21 +49,8 @@ pub const COMING: usize = 1184;
 
 pub const DIRECTORY: usize = 2272;
 
-pub const PAGE_WORDS: usize = 64;
-
-pub const PAGE_LEN: usize = 512;
-
-// There are at most so many houses, and people at each.
+// There are at most so many houses.
 pub const MOST_HOUSES: u64 = 16;
-
-pub const MOST_PEOPLE: u64 = 64;
-
-const AREAS: u64 = 2;
-
-// Records of people and boxes have so many words; in the directory those of boxes begin behind people and ways.
-pub const RECORD_WORDS: u64 = 12;
-
-pub const BOXES_PLACE: u64 = 864;
 
 // How many selector words there are.
 pub fn selector_words(geometry: &Geometry) -> usize
@@ -71,17 +69,41 @@ pub fn directory_words(geometry: &Geometry) -> usize
     PAGE_WORDS * geometry.directory_pages() as usize
 }
 
+// Which words of the memory are the directory.
+pub fn directory_range(geometry: &Geometry) -> Range<usize>
+    ensures start { result.start ≡ 2272 }
+    ensures end { result.end ≡ 2272 + 64 * directory_pages geometry.now.pages }
+    ensures some { 3168 ≤ result.end }
+    ensures most { result.end ≤ 199776 }
+{
+    DIRECTORY..DIRECTORY + directory_words(geometry)
+}
+
+// The selector words from a place on: those that count, or those that are to count.
+pub fn selectors_at<'a>(memory: &'a Memory, geometry: &Geometry, place: usize) -> &'a [u64]
+    requires { place + 1088 ≤ 262144 }
+    ensures { result.now ≡ part memory.now place (64 * selector_pages geometry.now.pages) }
+{
+    &memory[place..place + selector_words(geometry)]
+}
+
+// Where the twin of a page of the directory lies that is to count.
+pub fn coming_place(memory: &Memory, geometry: &Geometry, t: u64) -> u64
+    requires { t < directory_pages geometry.now.pages }
+    ensures { result ≡ table_place geometry.now.pages (coming_of geometry.now.pages memory.now) t }
+{
+    geometry
+        .table_place(selectors_at(memory, geometry, COMING), t)
+        .unwrap()
+}
+
 // The geometry of a memory that a step can work on: its counts have room in its regions.
-pub fn sensible(memory: &[u64]) -> Option<Geometry>
+// What makes sense of a memory stands in the contracts: a memory that is written through can't carry it in its type.
+pub fn sensible(memory: &Memory) -> Option<Geometry>
     ensures known { is_some result ≡ sensible memory.now }
     ensures ready { IfSome result (λ g. (g.pages ≡ pages_count memory.now) × Ready g.pages memory.now) }
 {
-    if memory.len() != MEMORY_LEN {
-        return None;
-    }
-    let Some(geometry) = Geometry::of(memory[PAGES]) else {
-        return None;
-    };
+    let geometry = Geometry::of(memory[PAGES])?;
     let (houses, area, people, boxes) = (
         memory[HOUSES],
         memory[AREA],

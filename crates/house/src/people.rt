@@ -5,40 +5,44 @@ ghost use Rattle.house.specs.Machine.{no_room, person_added, joins, box_added, m
 ghost use Rattle.house.specs.Does.{Ready, Lends, Does, told_result, boxes_asked};
 
 use super::commit::{commit, touch_record};
-use super::memory::{
-    BOXES, BOXES_PLACE, DIRECTORY, MOST_PEOPLE, PEOPLE, RECORD_WORDS, TO_SHOW, WEIGHT,
-    directory_words,
-};
+use super::memory::{BOXES, Memory, PEOPLE, TO_SHOW, WEIGHT, directory_range, directory_words};
 use super::phase::Phase;
-use super::{Refusal, Told};
-use mailboxes::Directory;
-use pages::places::Geometry;
+use super::{Refusal, Row, Told};
+use mailboxes::{Directory, MOST_PEOPLE};
+use pages::places::{BOXES_PLACE, Geometry, RECORD_WORDS};
 
 // A person has at most so many boxes.
 const MOST_BOXES_EACH: u64 = 256;
 
 // What a person with the box "in" weighs, and what a box does.
-const PERSON_WEIGHT: u64 = 776;
+pub const PERSON_WEIGHT: u64 = 776;
 
 const BOX_WEIGHT: u64 = 256;
 
 // Of each page a quarter may be kept.
 const KEPT_OF_PAGE: u64 = 128;
 
+// A name that was read, so it has at most 64 bytes.
+#[derive(Clone, Copy)]
+pub struct Name<'a> {
+    pub bytes: &'a [u8],
+    ghost short: { length bytes.now ≤ 64 },
+}
+
 // The directory in the memory.
-fn directory<'a>(memory: &'a [u64], geometry: &Geometry) -> Directory<'a>
+fn directory<'a>(memory: &'a Memory, geometry: &Geometry) -> Directory<'a>
     requires { Ready geometry.now.pages memory.now }
     ensures { Lends geometry.now.pages memory.now result.words.now result.people result.boxes }
 {
     Directory::new(
-        &memory[DIRECTORY..DIRECTORY + directory_words(geometry)],
+        &memory[directory_range(geometry)],
         memory[PEOPLE],
         memory[BOXES],
     )
 }
 
 // Whether so much more can be kept, and there is a place for one more box.
-fn room(memory: &[u64], geometry: &Geometry, more: u64) -> bool
+fn room(memory: &Memory, geometry: &Geometry, more: u64) -> bool
     requires { (Ready geometry.now.pages memory.now) × (more ≤ 776) }
     ensures { not result ≡ no_room geometry.now.pages more memory.now }
 {
@@ -50,17 +54,18 @@ fn room(memory: &[u64], geometry: &Geometry, more: u64) -> bool
 }
 
 // Writes a new person's records, and what the commit is to write and to show.
-fn add_person(memory: &mut [u64], geometry: &Geometry, name: &[u8])
-    requires { (Ready geometry.now.pages memory.old) × ((people_of memory.old < 64) × ((length name.now ≤ 64) × (no_room geometry.now.pages 776 memory.old ≡ false))) }
-    ensures { memory.new ≡ person_added geometry.now.pages name.now memory.old }
+fn add_person(memory: &mut Memory, geometry: &Geometry, name: Name<'_>)
+    requires { (Ready geometry.now.pages memory.old) × ((people_of memory.old < 64) × (no_room geometry.now.pages 776 memory.old ≡ false)) }
+    ensures { memory.new ≡ person_added geometry.now.pages name.entry.bytes.now memory.old }
 {
     let (people, boxes, weight) = (memory[PEOPLE], memory[BOXES], memory[WEIGHT]);
     mailboxes::add_person(
-        &mut memory[DIRECTORY..DIRECTORY + directory_words(geometry)],
+        &mut memory[directory_range(geometry)],
         people,
         boxes,
-        name,
-    );
+        name.bytes,
+    )
+    .unwrap();
     touch_record(memory, geometry, RECORD_WORDS * people);
     touch_record(memory, geometry, BOXES_PLACE + RECORD_WORDS * boxes);
     memory[PEOPLE] = people + 1;
@@ -71,15 +76,18 @@ fn add_person(memory: &mut [u64], geometry: &Geometry, name: &[u8])
 
 // A new person with the box "in"; their number is shown after the commit.
 pub fn join(
-    memory: &mut [u64],
+    memory: &mut Memory,
     geometry: &Geometry,
-    name: &[u8],
-    out: &mut [u8],
+    name: Name<'_>,
+    out: &mut Row,
 ) -> Result<Told, Refusal>
-    requires { (Ready geometry.now.pages memory.old) × ((length name.now ≤ 64) × (131072 ≤ length out.old)) }
-    ensures { Does (joins geometry.now.pages name.now memory.old) (told_result result) out.old memory.new out.new }
+    requires { Ready geometry.now.pages memory.old }
+    ensures { Does (joins geometry.now.pages name.entry.bytes.now memory.old) (told_result result) out.old memory.new out.new }
 {
-    if directory(memory, geometry).find_person(name).is_some() {
+    if directory(memory, geometry)
+        .find_person(name.bytes)
+        .is_some()
+    {
         return Err(Refusal::Taken);
     }
     if memory[PEOPLE] >= MOST_PEOPLE {
@@ -93,17 +101,18 @@ pub fn join(
 }
 
 // Writes a new box's record, and what the commit is to write.
-fn add_box(memory: &mut [u64], geometry: &Geometry, person: u64, name: &[u8])
-    requires { (Ready geometry.now.pages memory.old) × ((person < 64) × ((length name.now ≤ 64) × (no_room geometry.now.pages 256 memory.old ≡ false))) }
-    ensures { memory.new ≡ box_added geometry.now.pages person name.now memory.old }
+fn add_box(memory: &mut Memory, geometry: &Geometry, person: u64, name: Name<'_>)
+    requires { (Ready geometry.now.pages memory.old) × ((person < 64) × (no_room geometry.now.pages 256 memory.old ≡ false)) }
+    ensures { memory.new ≡ box_added geometry.now.pages person name.entry.bytes.now memory.old }
 {
     let (boxes, weight) = (memory[BOXES], memory[WEIGHT]);
     mailboxes::add_box(
-        &mut memory[DIRECTORY..DIRECTORY + directory_words(geometry)],
+        &mut memory[directory_range(geometry)],
         boxes,
         person,
-        name,
-    );
+        name.bytes,
+    )
+    .unwrap();
     touch_record(memory, geometry, BOXES_PLACE + RECORD_WORDS * boxes);
     memory[BOXES] = boxes + 1;
     memory[WEIGHT] = weight + BOX_WEIGHT;
@@ -112,23 +121,23 @@ fn add_box(memory: &mut [u64], geometry: &Geometry, person: u64, name: &[u8])
 
 // A new box of a person, empty and behind all others.
 pub fn new_box(
-    memory: &mut [u64],
+    memory: &mut Memory,
     geometry: &Geometry,
     person: u64,
-    name: &[u8],
-    out: &mut [u8],
+    name: Name<'_>,
+    out: &mut Row,
 ) -> Result<Told, Refusal>
-    requires { (Ready geometry.now.pages memory.old) × ((length name.now ≤ 64) × (131072 ≤ length out.old)) }
-    ensures { Does (makes_box geometry.now.pages person name.now memory.old) (told_result result) out.old memory.new out.new }
+    requires { Ready geometry.now.pages memory.old }
+    ensures { Does (makes_box geometry.now.pages person name.entry.bytes.now memory.old) (told_result result) out.old memory.new out.new }
 {
     if person >= memory[PEOPLE] {
         return Err(Refusal::NotThere);
     }
-    let directory = directory(memory, geometry);
-    if directory.find_box(person, name).is_some() {
+    let kept = directory(memory, geometry);
+    if kept.find_box(person, name.bytes).is_some() {
         return Err(Refusal::Taken);
     }
-    if directory.count_boxes(person) >= MOST_BOXES_EACH {
+    if kept.count_boxes(person) >= MOST_BOXES_EACH {
         return Err(Refusal::TooMany);
     }
     if !room(memory, geometry, BOX_WEIGHT) {
@@ -140,35 +149,33 @@ pub fn new_box(
 
 // The row of the next box of a person from a place on; after the last one the command is done.
 pub fn show_box(
-    memory: &mut [u64],
+    memory: &mut Memory,
     geometry: &Geometry,
     person: u64,
     from: u64,
-    out: &mut [u8],
+    out: &mut Row,
 ) -> Told
-    requires { (Ready geometry.now.pages memory.old) × (131072 ≤ length out.old) }
+    requires { Ready geometry.now.pages memory.old }
     ensures { Does (shows_boxes geometry.now.pages person from memory.old) result out.old memory.new out.new }
 {
-    let directory = directory(memory, geometry);
-    let Some(index) = directory.next_box(person, from) else {
+    let kept = directory(memory, geometry);
+    let Some(index) = kept.next_box(person, from) else {
         Phase::Idle.store(memory);
         return Told::Done;
     };
-    let Some(len) = directory.box_row(index, out) else {
-        return Told::No(Refusal::NoCommand.number());
-    };
+    let len = kept.box_row(index, out).unwrap();
     Phase::ShowBoxes(person, index + 1).store(memory);
     Told::Shows(len)
 }
 
 // The boxes of a person, one row after the other.
 pub fn boxes(
-    memory: &mut [u64],
+    memory: &mut Memory,
     geometry: &Geometry,
     person: u64,
-    out: &mut [u8],
+    out: &mut Row,
 ) -> Result<Told, Refusal>
-    requires { (Ready geometry.now.pages memory.old) × (131072 ≤ length out.old) }
+    requires { Ready geometry.now.pages memory.old }
     ensures { Does (boxes_asked geometry.now.pages person memory.old) (told_result result) out.old memory.new out.new }
 {
     if person >= memory[PEOPLE] {

@@ -1,7 +1,8 @@
 // Where a house is in its work, as it lies in the first three registers.
-ghost use Rattle.std.specs.Prelude.{◌≡◌, ◌≤◌, [], ◌∷◌, length};
+ghost use Rattle.std.specs.Prelude.{◌≡◌, ◌≤◌, length};
 ghost use Rattle.house.specs.Memory.{phase_of, phase_words, in_phase};
 
+// What a house is doing, with the number of what comes next.
 #[derive(Clone, Copy)]
 pub enum Phase {
     // No power yet, or nothing that makes sense.
@@ -25,6 +26,33 @@ pub enum Phase {
     Shown,
 }
 
+// The memory is numbers only, so a phase is kept as its number and what goes with it.
+const PHASE_WORDS: usize = 3;
+
+const OFF: u64 = 0;
+
+const READ_HEADER: u64 = 1;
+
+const READ_SELECTORS: u64 = 2;
+
+const READ_DIRECTORY: u64 = 3;
+
+const IDLE: u64 = 4;
+
+const SHOW_BOXES: u64 = 5;
+
+const WRITE_TABLE: u64 = 6;
+
+const WRITE_SELECTORS: u64 = 7;
+
+const WRITE_HEADER: u64 = 8;
+
+const FLUSH_HEADER: u64 = 9;
+
+const COMMITTED: u64 = 10;
+
+const SHOWN: u64 = 11;
+
 impl Phase {
     // The phase in the first registers; numbers that no phase stores are `Off`.
     pub fn load(memory: &[u64]) -> Phase
@@ -32,38 +60,38 @@ impl Phase {
         ensures { result ≡ phase_of memory.now }
     {
         match memory[0] {
-            1 => Phase::ReadHeader,
-            2 => Phase::ReadSelectors(memory[1]),
-            3 => Phase::ReadDirectory(memory[1]),
-            4 => Phase::Idle,
-            5 => Phase::ShowBoxes(memory[1], memory[2]),
-            6 => Phase::WriteTable(memory[1]),
-            7 => Phase::WriteSelectors(memory[1]),
-            8 => Phase::WriteHeader,
-            9 => Phase::FlushHeader,
-            10 => Phase::Committed,
-            11 => Phase::Shown,
+            READ_HEADER => Phase::ReadHeader,
+            READ_SELECTORS => Phase::ReadSelectors(memory[1]),
+            READ_DIRECTORY => Phase::ReadDirectory(memory[1]),
+            IDLE => Phase::Idle,
+            SHOW_BOXES => Phase::ShowBoxes(memory[1], memory[2]),
+            WRITE_TABLE => Phase::WriteTable(memory[1]),
+            WRITE_SELECTORS => Phase::WriteSelectors(memory[1]),
+            WRITE_HEADER => Phase::WriteHeader,
+            FLUSH_HEADER => Phase::FlushHeader,
+            COMMITTED => Phase::Committed,
+            SHOWN => Phase::Shown,
             _ => Phase::Off,
         }
     }
 
     // A phase as three numbers.
-    fn words(self) -> (u64, u64, u64)
-        ensures { result.0 ∷ result.1 ∷ result.2 ∷ [] ≡ phase_words self }
+    fn words(self) -> [u64; PHASE_WORDS]
+        ensures { result ≡ phase_words self }
     {
         match self {
-            Phase::Off => (0, 0, 0),
-            Phase::ReadHeader => (1, 0, 0),
-            Phase::ReadSelectors(q) => (2, q, 0),
-            Phase::ReadDirectory(t) => (3, t, 0),
-            Phase::Idle => (4, 0, 0),
-            Phase::ShowBoxes(person, from) => (5, person, from),
-            Phase::WriteTable(t) => (6, t, 0),
-            Phase::WriteSelectors(q) => (7, q, 0),
-            Phase::WriteHeader => (8, 0, 0),
-            Phase::FlushHeader => (9, 0, 0),
-            Phase::Committed => (10, 0, 0),
-            Phase::Shown => (11, 0, 0),
+            Phase::Off => [OFF, 0, 0],
+            Phase::ReadHeader => [READ_HEADER, 0, 0],
+            Phase::ReadSelectors(q) => [READ_SELECTORS, q, 0],
+            Phase::ReadDirectory(t) => [READ_DIRECTORY, t, 0],
+            Phase::Idle => [IDLE, 0, 0],
+            Phase::ShowBoxes(person, from) => [SHOW_BOXES, person, from],
+            Phase::WriteTable(t) => [WRITE_TABLE, t, 0],
+            Phase::WriteSelectors(q) => [WRITE_SELECTORS, q, 0],
+            Phase::WriteHeader => [WRITE_HEADER, 0, 0],
+            Phase::FlushHeader => [FLUSH_HEADER, 0, 0],
+            Phase::Committed => [COMMITTED, 0, 0],
+            Phase::Shown => [SHOWN, 0, 0],
         }
     }
 
@@ -72,9 +100,6 @@ impl Phase {
         requires { 3 ≤ length memory.old }
         ensures { memory.new ≡ in_phase self memory.old }
     {
-        let (tag, x, y) = self.words();
-        memory[0] = tag;
-        memory[1] = x;
-        memory[2] = y;
+        memory[..PHASE_WORDS].copy_from_slice(&self.words());
     }
 }

@@ -1,34 +1,39 @@
 // Why a command is refused, and the number that is said for it.
 ghost use Rattle.std.specs.Prelude.{◌≡◌};
+ghost use Rattle.house.specs.declared.Told.TheVariants.{No};
 ghost use Rattle.house.specs.Told.{refusal_number};
 
-#[derive(Clone, Copy)]
+use super::Told;
+
+// The reasons, each with its number.
+#[derive(Clone, Copy, PartialEq, Eq, Debug)]
 pub enum Refusal {
-    // The bytes are no command.
-    NoCommand,
+    // The bytes are no command, or it is told out of turn.
+    NoCommand = 1,
     // The command is not known yet.
-    Unknown,
+    Unknown = 2,
     // The person, or their box or letter, is not there.
-    NotThere,
+    NotThere = 3,
     // Somebody has the name, or there is such a box.
-    Taken,
+    Taken = 4,
     // There are as many as there may be.
-    TooMany,
+    TooMany = 7,
     // More would be kept than there is room for.
-    NoRoom,
+    NoRoom = 8,
 }
 
-impl Refusal {
-    pub fn number(self) -> u64
-        ensures { result ≡ refusal_number self }
-    {
-        match self {
-            Refusal::NoCommand => 1,
-            Refusal::Unknown => 2,
-            Refusal::NotThere => 3,
-            Refusal::Taken => 4,
-            Refusal::TooMany => 7,
-            Refusal::NoRoom => 8,
-        }
+impl From<Refusal> for u64 {
+    ghost from_gives = { λ refusal number. number ≡ refusal_number refusal };
+
+    fn from(refusal: Refusal) -> u64 {
+        refusal as u64
+    }
+}
+
+impl From<Refusal> for Told {
+    ghost from_gives = { λ refusal told. told ≡ No (refusal_number refusal) };
+
+    fn from(refusal: Refusal) -> Told {
+        Told::No(refusal.into())
     }
 }

@@ -1,36 +1,27 @@
 -- At rest the command is obeyed; otherwise it is out of turn.
-use Rattle.std.proofs.Common.{sym, ◌∙◌, subst}
-use Rattle.model.specs.Run.{said}
+use Rattle.std.proofs.Common.{refl, ◌∙◌}
+use Rattle.house.specs.declared.refusal.Refusal.TheVariants.{NoCommand}
 use Rattle.house.specs.declared.phase.Phase.TheVariants.{Idle}
-use Rattle.house.specs.declared.Told.TheVariants.{No}
-use Rattle.house.specs.Machine.{said_told, stepped}
-use Rattle.house.specs.Does.{Does}
-use Rattle.house.proofs.Acts.{does_as, out_does}
-use Rattle.house.proofs.Turns.{said_refused, said_taken, said_out}
+use Rattle.house.specs.Machine.{said_told}
+use Rattle.house.proofs.Acts.{does_as, refused_does, handed_on}
+use Rattle.house.proofs.Turns.{geometry_there, no_geometry, said_refused, said_taken, said_out}
 use Rattle.house.proofs.told_command.Goals as goal
+
+pub returns-in_err-geometry : goal.returns-in_err-geometry
+returns-in_err-geometry c =
+    let none = handed_on c.sensible.result NoCommand c.in_err-geometry.field-0.0 c.from_residual.result c.in_err-geometry.ensures.value c.from_residual.ensures.1 in
+    rw none.1 (refused_does c.args.memory.now c.args.out.now 1 1 refl (said_refused c.args.memory.now c.args.text.now (no_geometry c.args.memory.now c.sensible.result c.sensible.ensures.known none.0)))
 
 pub returns-in_default : goal.returns-in_default
 returns-in_default c =
-    out_does c.args.memory.now c.args.out.now c.out_of_turn.result c.out_of_turn.ensures (said_refused c.args.memory.now c.args.text.now (sym c.in_default.ensures.known))
-
-pub returns-in_default-load : goal.returns-in_default-load
-returns-in_default-load c =
     let m = c.args.memory.now in
-    let P = c.in-Some.geometry.pages in
-    out_does m c.args.out.now c.out_of_turn-in_default-load.result c.out_of_turn-in_default-load.ensures
-    (said_taken m P c.load.result c.args.text.now (sym c.in-Some.ensures.known) c.in-Some.ensures.ready.0 c.load.ensures
-    ∙ said_out P c.load.result c.args.text.now m c.in_default-load.not-Idle)
+    let P = c.in_ok-geometry.geometry.pages in
+    refused_does m c.args.out.now 1 1 refl
+    (said_taken m P c.load.result c.args.text.now (geometry_there c.args.memory.now c.sensible.result c.in_ok-geometry.geometry c.sensible.ensures.known c.sensible.ensures.ready c.in_ok-geometry.ensures.ok_part).0 (geometry_there c.args.memory.now c.sensible.result c.in_ok-geometry.geometry c.sensible.ensures.known c.sensible.ensures.ready c.in_ok-geometry.ensures.ok_part).1.0 c.load.ensures
+    ∙ said_out P c.load.result c.args.text.now m c.in_default.not-Idle)
 
-pub returns-in-Ok : goal.returns-in-Ok
+pub returns : goal.returns
 unfolding said_told
-returns-in-Ok c =
-    does_as _ _ _ _ (said_taken c.args.memory.now c.in-Some.geometry.pages Idle c.args.text.now (sym c.in-Some.ensures.known) c.in-Some.ensures.ready.0 c.in-Idle.ensures)
-    c.in-Ok.ensures
-
-pub returns-in-Err : goal.returns-in-Err
-unfolding said_told
-returns-in-Err c =
-    let m = c.args.memory.now in
-    subst (λ k. Does (stepped m (said c.args.text.now)) (No k) c.args.out.now c.obey.new.memory c.obey.new.out) (sym c.number.ensures)
-    (does_as _ _ _ _ (said_taken m c.in-Some.geometry.pages Idle c.args.text.now (sym c.in-Some.ensures.known) c.in-Some.ensures.ready.0 c.in-Idle.ensures)
-    c.in-Err.ensures)
+returns c =
+    does_as _ _ _ _ (said_taken c.args.memory.now c.in_ok-geometry.geometry.pages Idle c.args.text.now (geometry_there c.args.memory.now c.sensible.result c.in_ok-geometry.geometry c.sensible.ensures.known c.sensible.ensures.ready c.in_ok-geometry.ensures.ok_part).0 (geometry_there c.args.memory.now c.sensible.result c.in_ok-geometry.geometry c.sensible.ensures.known c.sensible.ensures.ready c.in_ok-geometry.ensures.ok_part).1.0 c.in-Idle.ensures)
+    c.obey.ensures

@@ -1,5 +1,5 @@
 -- The page goes into the other area, which is there.
-use Rattle.std.proofs.Common.{◌+◌, ◌-◌, ◌*◌, ◌<◌, ◌&&◌, ltb, refl, arith}
+use Rattle.std.proofs.Common.{◌+◌, ◌-◌, ◌*◌, ◌<◌, ◌&&◌, ltb, sym, refl, ◌∙◌, arith}
 use Rattle.std.proofs.lemmas.Bool.{and_from, lt-ltb}
 use Rattle.pages.specs.Words.{part, bytes_of}
 use Rattle.pages.specs.Geometry.{selector_pages, selector_place}
@@ -15,9 +15,9 @@ returns c =
     let P = c.args.geometry.now.pages in
     let q = c.args.q in
     let few : q < 17 = omega (arith, selector_pages_most P c.args.geometry.now.most) in
-    let there = and_from (ltb (1 - area_of m) 2) (ltb q (selector_pages P)) (lt-ltb (1 - area_of m) 2 (omega arith)) (lt-ltb q (selector_pages P) c.requires.1.1.0) in (
+    let here = and_from (ltb (1 - area_of m) 2) (ltb q (selector_pages P)) (lt-ltb (1 - area_of m) 2 (omega arith)) (lt-ltb q (selector_pages P) c.requires.1) in (
       c.store-2.ensures,
-      told_write (selector_place P (1 - area_of m) q) c.in-Some.place (bytes_of (part m (1184 + 64 * q) 64)) c.args.out.now c.store.new.out
-          (some_place (ltb (1 - area_of m) 2 && ltb q (selector_pages P)) _ c.in-Some.place there c.in-Some.ensures)
+      told_write (selector_place P (1 - area_of m) q) c.unwrap-place.result (bytes_of (part m (1184 + 64 * q) 64)) c.args.out.now c.store.new.out
+          (some_place (ltb (1 - area_of m) 2 && ltb q (selector_pages P)) _ c.unwrap-place.result here (sym c.unwrap-place.ensures ∙ c.selector_place.ensures))
           (stored m c.args.out.now c.store.new.out (1184 + 64 * q) 64 c.store.result _ (lent_part m (1184 + 64 * q) 64 64 refl) (omega arith) (omega arith) c.store.ensures.fits c.store.ensures.written),
     )

@@ -1,5 +1,5 @@
 -- Each test that fails is one of those that the definition asks for.
-use Rattle.std.proofs.Common.{◌≡◌, ◌*◌, ◌≤◌, leb, sym, ap, ◌∙◌, subst, inl, inr, arith}
+use Rattle.std.proofs.Common.{◌≡◌, ◌*◌, ◌≤◌, leb, is_some, sym, ap, ◌∙◌, subst, inl, inr, arith}
 use mathlib.Core.Bool.{false≢true}
 use Rattle.std.proofs.lemmas.Bool.{and_from, le-leb}
 use Rattle.pages.specs.Geometry.{directory_pages}
@@ -8,13 +8,11 @@ use Rattle.house.specs.Does.{Ready}
 use Rattle.house.proofs.Sensible.{Fits, not_sensible, fits_sensible, enough, too_many}
 use Rattle.house.proofs.memory.sensible.Goals as goal
 
-pub returns-then-memory-ne-MEMORY_LEN : goal.returns-then-memory-ne-MEMORY_LEN
-returns-then-memory-ne-MEMORY_LEN c = record { known = not_sensible c.args.memory.now (λ f. c.if-memory-ne-MEMORY_LEN.true f.ready.long); ready = tt }
-
-pub returns-in_default : goal.returns-in_default
-returns-in_default c =
+pub returns-in_err-geometry-clause-known : goal.returns-in_err-geometry-clause-known
+returns-in_err-geometry-clause-known c =
     let m = c.args.memory.now in
-    record { known = not_sensible m (λ f. false≢true (c.in_default.ensures.known ∙ and_from (leb 256 (pages_count m)) (leb (pages_count m) 1048576) (le-leb 256 (pages_count m) f.least) (le-leb (pages_count m) 1048576 f.most))); ready = tt }
+    ap is_some c.from_residual.ensures
+    ∙ not_sensible m (λ f. false≢true (c.in_err-geometry.ensures.known ∙ and_from (leb 256 (pages_count m)) (leb (pages_count m) 1048576) (le-leb 256 (pages_count m) f.least) (le-leb (pages_count m) 1048576 f.most)))
 
 pub returns-then-houses-gt-MOST_HOUSES : goal.returns-then-houses-gt-MOST_HOUSES
 returns-then-houses-gt-MOST_HOUSES c =
@@ -22,7 +20,7 @@ returns-then-houses-gt-MOST_HOUSES c =
 
 pub returns-then-boxes-directory_words : goal.returns-then-boxes-directory_words
 returns-then-boxes-directory_words c =
-    let sized = c.in-Some.ensures.sized in
+    let sized = c.in_ok-geometry.ensures.sized in
     let words = c.directory_words.ensures.is in
     let same : c.directory_words.result ≡ 64 * directory_pages (pages_count c.args.memory.now) = words ∙ ap (λ P. 64 * directory_pages P) sized in
     record { known = not_sensible c.args.memory.now (λ f. too_many _ _ _ c.directory_words.ensures.some same f.ready.boxes_fit c.if-boxes-directory_words.true); ready = tt }
@@ -30,12 +28,12 @@ returns-then-boxes-directory_words c =
 pub returns : goal.returns
 returns c =
     let m = c.args.memory.now in
-    let sized : c.in-Some.geometry.pages ≡ pages_count m = c.in-Some.ensures.sized in
+    let sized : c.in_ok-geometry.geometry.pages ≡ pages_count m = c.in_ok-geometry.ensures.sized in
     let fit : Fits m = record {
-      least = subst (λ P. 256 ≤ P) sized c.in-Some.geometry.least;
-      most = subst (λ P. P ≤ 1048576) sized c.in-Some.geometry.most;
+      least = subst (λ P. 256 ≤ P) sized c.in_ok-geometry.geometry.least;
+      most = subst (λ P. P ≤ 1048576) sized c.in_ok-geometry.geometry.most;
+      long = omega arith;
       ready = record {
-        long = c.if-memory-ne-MEMORY_LEN.false;
         houses_few = omega arith;
         area_known = omega arith;
         people_few = omega arith;

@@ -1,10 +1,10 @@
 -- Only of somebody who is there.
 use Rattle.std.proofs.Common.{refl, ap}
-use Rattle.std.proofs.lemmas.Bool.{le-ltb, lt-ltb}
+use Rattle.std.proofs.lemmas.Bool.{le-ltb}
 use Rattle.model.specs.Mail.{pick}
 use Rattle.house.specs.Memory.{people_of}
 use Rattle.house.specs.Machine.{refuse, shows_boxes}
-use Rattle.house.proofs.Acts.{refused_does, does_as}
+use Rattle.house.proofs.Acts.{refused_does}
 use Rattle.house.proofs.people.boxes.Goals as goal
 
 pub returns-then-person-memory : goal.returns-then-person-memory
@@ -12,9 +12,3 @@ returns-then-person-memory c =
     let m = c.args.memory.now in
     refused_does m c.args.out.now 3 3 refl
     (ap (λ t. pick t (shows_boxes c.args.geometry.now.pages c.args.person 0 m) (refuse 3 m)) (le-ltb c.args.person (people_of m) c.if-person-memory.true))
-
-pub returns : goal.returns
-returns c =
-    let m = c.args.memory.now in
-    does_as _ _ _ _ (ap (λ t. pick t (shows_boxes c.args.geometry.now.pages c.args.person 0 m) (refuse 3 m)) (lt-ltb c.args.person (people_of m) c.if-person-memory.false))
-    c.show_box.ensures

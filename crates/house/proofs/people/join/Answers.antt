@@ -14,7 +14,7 @@ pub returns-then-is_some : goal.returns-then-is_some
 returns-then-is_some c =
     let P = c.args.geometry.now.pages in
     let m = c.args.memory.now in
-    let nm = c.args.name.now in
+    let nm = c.args.name.bytes.now in
     refused_does m c.args.out.now 4 4 refl
     (join_taken P nm m (ap is_some (sym (person_found _ _ _ _ _ c.directory.ensures nm c.find_person.result c.find_person.ensures)) ∙ sym c.if-is_some.ensures))
 
@@ -22,7 +22,7 @@ pub returns-then-memory-ge-MOST_PEOPLE : goal.returns-then-memory-ge-MOST_PEOPLE
 returns-then-memory-ge-MOST_PEOPLE c =
     let P = c.args.geometry.now.pages in
     let m = c.args.memory.now in
-    let nm = c.args.name.now in
+    let nm = c.args.name.bytes.now in
     refused_does m c.args.out.now 7 7 refl
     (join_many P nm m (ap is_some (sym (person_found _ _ _ _ _ c.directory.ensures nm c.find_person.result c.find_person.ensures)) ∙ sym c.if-is_some.ensures) c.if-memory-ge-MOST_PEOPLE.true)
 
@@ -30,7 +30,7 @@ pub returns-then-not-room : goal.returns-then-not-room
 returns-then-not-room c =
     let P = c.args.geometry.now.pages in
     let m = c.args.memory.now in
-    let nm = c.args.name.now in
+    let nm = c.args.name.bytes.now in
     refused_does m c.args.out.now 8 8 refl
     (join_full P nm m (ap is_some (sym (person_found _ _ _ _ _ c.directory.ensures nm c.find_person.result c.find_person.ensures)) ∙ sym c.if-is_some.ensures) c.if-memory-ge-MOST_PEOPLE.false (sym c.if-not-room.ensures))
 
@@ -40,14 +40,14 @@ commit-requires c =
     let m = c.args.memory.now in
     let most : 64 * directory_pages P ≤ 197504 = omega (arith, directory_pages_most P) in
     let area : area_of c.add_person.new.memory ≡ area_of m = ap area_of c.add_person.ensures
-    ∙ person_area P c.args.name.now m (64 * directory_pages P) c.args.geometry.now.most c.requires.0.long refl most (room_says P 776 m (sym c.if-not-room.ensures)).1 c.if-memory-ge-MOST_PEOPLE.false in
-    (c.add_person.auto.memory ∙ c.requires.0.long, (subst (λ a. a < 2) (sym area) c.requires.0.area_known, c.requires.1.1))
+    ∙ person_area P c.args.name.bytes.now m (64 * directory_pages P) c.args.geometry.now.most (omega arith) refl most (room_says P 776 m (sym c.if-not-room.ensures)).1 c.if-memory-ge-MOST_PEOPLE.false in
+    subst (λ a. a < 2) (sym area) c.requires.area_known
 
 pub returns : goal.returns
 returns c =
     let P = c.args.geometry.now.pages in
     let m = c.args.memory.now in
-    let nm = c.args.name.now in
+    let nm = c.args.name.bytes.now in
     does_as _ _ _ _
     (join_done P nm m (ap is_some (sym (person_found _ _ _ _ _ c.directory.ensures nm c.find_person.result c.find_person.ensures)) ∙ sym c.if-is_some.ensures) c.if-memory-ge-MOST_PEOPLE.false (sym c.if-not-room.ensures))
     (subst (λ l. Does (commit P 0 l) c.commit.result c.args.out.now c.commit.new.memory c.commit.new.out) c.add_person.ensures c.commit.ensures)

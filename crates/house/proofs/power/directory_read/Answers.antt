@@ -1,5 +1,5 @@
 -- The page comes into the directory; then there is a next one, or the house is up.
-use Rattle.std.proofs.Common.{◌+◌, ◌<◌, ◌≤◌, ap, ◌∙◌, subst, arith}
+use Rattle.std.proofs.Common.{refl, ◌+◌, ◌<◌, ◌≤◌, ap, ◌∙◌, subst, arith}
 use Rattle.pages.specs.Geometry.{directory_pages}
 use Rattle.pages.proofs.Geometry.{directory_pages_most}
 use Rattle.house.specs.declared.phase.Phase.TheVariants.{Idle}
@@ -11,7 +11,7 @@ use Rattle.house.proofs.power.directory_read.Goals as goal
 
 pub returns-then-t-pages : goal.returns-then-t-pages
 returns-then-t-pages c =
-    refused_quietly c.args.memory.now 1 c.number.result c.number.ensures
+    refused_quietly c.args.memory.now 1 1 refl
     (directory_wrong c.args.geometry.now.pages c.args.t c.args.page.now c.args.memory.now (subst (λ n. n ≤ c.args.t) c.directory_pages-pages.ensures c.if-t-pages.true))
 
 pub returns-then-t-pages-2 : goal.returns-then-t-pages-2
@@ -21,7 +21,7 @@ returns-then-t-pages-2 c =
     let here : t < directory_pages P = subst (λ n. t < n) c.directory_pages-pages.ensures c.if-t-pages.false in
     let more : t + 1 < directory_pages P = subst (λ n. t + 1 < n) c.directory_pages-pages.ensures c.if-t-pages-2.true in
     let few : t < 3086 = omega (arith, directory_pages_most P) in
-    quietly_as _ _ (directory_more P t c.args.page.now c.args.memory.now c.args.geometry.now.most c.requires.0 few here more)
+    quietly_as _ _ (directory_more P t c.args.page.now c.args.memory.now c.args.geometry.now.most (omega arith) few here more)
     (subst (λ l. Quietly (directory_asked P (t + 1) l) c.read_directory.result c.read_directory.new.memory) c.load_page.ensures c.read_directory.ensures)
 
 pub returns : goal.returns

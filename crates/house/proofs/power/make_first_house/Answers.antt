@@ -1,5 +1,5 @@
 -- The header, the first directory behind it, and the two records that are touched.
-use Rattle.std.proofs.Common.{◌≡◌, ℕ, ◌+◌, ◌*◌, List, [], ◌∷◌, refl, ap, ◌∙◌}
+use Rattle.std.proofs.Common.{◌≡◌, ℕ, ◌+◌, ◌*◌, List, [], ◌∷◌, refl, ap, ◌∙◌, arith}
 use borrow.Rule.Slice.PartMut.{put_mid}
 use Rattle.pages.specs.Words.{patched}
 use Rattle.pages.specs.Geometry.{directory_pages}
@@ -15,6 +15,6 @@ returns c =
     let P = c.args.geometry.now.pages in
     let hs : List ℕ = 1 ∷ 0 ∷ 1 ∷ 1 ∷ 0 ∷ 0 ∷ (776 + 64 * houses_count m) ∷ [] in
     let headed : put_mid 64 7 m c.copy_from_slice.new.self ≡ patched m 64 hs = ap (put_mid 64 7 m) c.copy_from_slice.ensures.after in
-    let directed = first_written m (put_mid 64 7 m c.copy_from_slice.new.self) hs (64 * directory_pages P) c.directory_words.result c.first.result c.first.new.words
-    c.requires.0 c.directory_words.ensures.is c.directory_words.ensures.some c.directory_words.ensures.most refl headed c.first.ensures.fits c.first.ensures.written in
+    let directed = first_written m (put_mid 64 7 m c.copy_from_slice.new.self) hs (64 * directory_pages P) c.directory_range.result.start c.directory_range.result.end c.first.result c.first.new.words
+    (omega arith) c.directory_range.ensures.start c.directory_range.ensures.end c.directory_range.ensures.some c.directory_range.ensures.most refl headed c.first.ensures.fits c.first.ensures.written in
     c.touch_record-2.ensures ∙ ap (touch_record P 864) (c.touch_record.ensures ∙ ap (touch_record P 0) directed)

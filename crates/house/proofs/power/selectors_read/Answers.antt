@@ -1,5 +1,5 @@
 -- The page comes to both selector words; then there is a next one, or the directory.
-use Rattle.std.proofs.Common.{◌≡◌, ◌+◌, ◌*◌, ◌<◌, ◌≤◌, ◌&&◌, ltb, ap, ◌∙◌, subst}
+use Rattle.std.proofs.Common.{refl, ◌≡◌, ◌+◌, ◌*◌, ◌<◌, ◌≤◌, ◌&&◌, ltb, ap, ◌∙◌, subst}
 use Rattle.std.proofs.lemmas.Bool.{lt-ltb, and_parts}
 use Rattle.pages.specs.Words.{words_in, patched}
 use Rattle.pages.specs.Geometry.{selector_pages, selector_place}
@@ -13,7 +13,7 @@ use Rattle.house.proofs.power.selectors_read.Goals as goal
 
 pub returns-then-q-selector_pages : goal.returns-then-q-selector_pages
 returns-then-q-selector_pages c =
-    refused_quietly c.args.memory.now 1 c.number.result c.number.ensures
+    refused_quietly c.args.memory.now 1 1 refl
     (selectors_wrong c.args.geometry.now.pages c.args.q c.args.page.now c.args.memory.now (subst (λ n. n ≤ c.args.q) c.selector_pages.ensures c.if-q-selector_pages.true))
 
 pub returns-in-Some : goal.returns-in-Some
@@ -38,5 +38,5 @@ returns-in-None c =
     let q = c.args.q in
     let here : q < selector_pages P = subst (λ n. q < n) c.selector_pages.ensures c.if-q-selector_pages.false in
     let both : c.load_page-2.new.memory ≡ with_selectors q p m = c.load_page-2.ensures ∙ ap (λ l. patched l (1184 + 64 * q) (words_in 64 p)) c.load_page.ensures in
-    quietly_as _ _ (selectors_last P q p m here (no_page (ltb (area_of m) 2) (ltb (q + 1) (selector_pages P)) (lt-ltb (area_of m) 2 c.requires.1.0) (none_test _ _ c.in-None.ensures)))
+    quietly_as _ _ (selectors_last P q p m here (no_page (ltb (area_of m) 2) (ltb (q + 1) (selector_pages P)) (lt-ltb (area_of m) 2 c.requires) (none_test _ _ c.in-None.ensures)))
     (subst (λ l. Quietly (directory_asked P 0 l) c.read_directory.result c.read_directory.new.memory) both c.read_directory.ensures)

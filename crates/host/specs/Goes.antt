@@ -1,13 +1,36 @@
 -- How a command goes at a house that a host does the acts of: from a memory and an event, act by act, to its end. The host has a disk of pages and a
 -- place for rows, and says itself what it is to read, to write and to keep pages, and to show a row: relations between what was before and after.
-use Rattle.std.specs.Prelude.{◌≡◌, ℕ, List, length, take}
+use Rattle.std.specs.Prelude.{◌≡◌, ℕ, List, length, take, Option, Some, None, Result, Ok, Err}
 use Rattle.model.specs.Run.{Event, page, next, lost, Act, read, write, flush, shows, send, done, refused}
 use Rattle.house.specs.declared.Told.{Told}
 use Rattle.house.specs.declared.Told.TheVariants.{Read, Write, Flush, Shows, Send, Done, No}
 use Rattle.house.specs.Machine.{own}
 use Rattle.house.specs.Entry.{ActTold}
-use Rattle.host.specs.declared.machine.Ended.{Ended}
-use Rattle.host.specs.declared.machine.Ended.TheVariants.{Done as IsDone, Refused}
+use Rattle.host.specs.declared.ending.Refused.{Refused}
+
+-- the answer to a command that came to its end: it was done, or refused with a number
+abbrev pub Answer : Type 0
+Answer = Result (Unit {0}) Refused
+
+-- the answer that an act is, where a command ends with it
+abbrev pub answered : Act → Option Answer
+answered (read k) = None
+answered (write k p) = None
+answered flush = None
+answered (shows s) = None
+answered (send c l) = None
+answered done = Some (Ok tt)
+answered (refused k) = Some (Err (record { 0 = k }))
+
+-- the same of an act as the house tells it
+abbrev pub answer_of : Told → Option Answer
+answer_of (Read k) = None
+answer_of (Write k) = None
+answer_of Flush = None
+answer_of (Shows n) = None
+answer_of (Send n) = None
+answer_of Done = Some (Ok tt)
+answer_of (No k) = Some (Err (record { 0 = k }))
 
 -- what a disk and a place for rows mean by their work
 pub record Means (D R : Type 0) : Type 1 where
@@ -30,15 +53,11 @@ Did w done d r ev d₁ r₁ = ⊥
 Did w (refused k) d r ev d₁ r₁ = ⊥
 
 -- from a memory, a disk, rows and an event the command ends so, and leaves these
-pub data Goes {D R : Type 0} (w : Means D R) : List ℕ → D → R → Event → Ended → List ℕ → D → R → Type 0 where
-  at_done : {m m' : List ℕ} {d : D} {r : R} {ev : Event} → (own.step m ev).act ≡ done → m' ≡ (own.step m ev).memory → Goes w m d r ev IsDone m' d r
-  at_refused : {m m' : List ℕ} {d : D} {r : R} {ev : Event} (k : ℕ) → (own.step m ev).act ≡ refused k → m' ≡ (own.step m ev).memory → Goes w m d r ev (Refused k) m' d r
-  on_from : {m m' : List ℕ} {d d' : D} {r r' : R} {ev : Event} {end : Ended} (d₁ : D) (r₁ : R) (ev₁ : Event)
-      → Did w (own.step m ev).act d r ev₁ d₁ r₁ → Goes w (own.step m ev).memory d₁ r₁ ev₁ end m' d' r' → Goes w m d r ev end m' d' r'
-
--- the event of a page that was read
-abbrev pub page_read : List ℕ → Event
-page_read p = page p
+pub data Goes {D R : Type 0} (w : Means D R) : List ℕ → D → R → Event → Answer → List ℕ → D → R → Type 0 where
+  at_end : {m m' : List ℕ} {d : D} {r : R} {ev : Event} {answer : Answer} → answered (own.step m ev).act ≡ Some answer → m' ≡ (own.step m ev).memory
+      → Goes w m d r ev answer m' d r
+  on_from : {m m' : List ℕ} {d d' : D} {r r' : R} {ev : Event} {answer : Answer} (d₁ : D) (r₁ : R) (ev₁ : Event)
+      → Did w (own.step m ev).act d r ev₁ d₁ r₁ → Goes w (own.step m ev).memory d₁ r₁ ev₁ answer m' d' r' → Goes w m d r ev answer m' d' r'
 
 -- an event at this memory is answered by this act, and leaves this memory and this row
 abbrev pub ToldBy : List ℕ → List ℕ → Event → Told → List ℕ → List ℕ → Type 0
@@ -55,5 +74,5 @@ After w Done m row d r told m₁ row₁ d₁ r₁ = (told ≡ Done) × (m₁ ≡
 After w (No k) m row d r told m₁ row₁ d₁ r₁ = (told ≡ No k) × (m₁ ≡ m) × (row₁ ≡ row) × (d₁ ≡ d) × (r₁ ≡ r)
 
 -- from an act and what it left: whatever led there comes to this end
-abbrev pub Ends : {D R : Type 0} → Means D R → Told → List ℕ → List ℕ → D → R → Ended → List ℕ → D → R → Type 0
-Ends w told m row d r end m' d' r' = (m₀ row₀ : List ℕ) (ev : Event) → ToldBy m₀ row₀ ev told m row → Goes w m₀ d r ev end m' d' r'
+abbrev pub Ends : {D R : Type 0} → Means D R → Told → List ℕ → List ℕ → D → R → Answer → List ℕ → D → R → Type 0
+Ends w told m row d r answer m' d' r' = (m₀ row₀ : List ℕ) (ev : Event) → ToldBy m₀ row₀ ev told m row → Goes w m₀ d r ev answer m' d' r'

@@ -1,10 +1,8 @@
 // What a house's pages are to a host.
-ghost use Rattle.std.specs.Prelude.{◌≡◌, ℕ, ◌<◌, List, length, OnOk};
+ghost use Rattle.std.specs.Prelude.{◌≡◌, ℕ, ◌<◌, List, OnOk};
 
+use super::PAGE_LEN;
 use std::io;
-
-// How many bytes a page has.
-pub const PAGE_LEN: usize = 512;
 
 // What keeps pages: `size` is how many there are, and a page is asked for only if it is one of them. What it is to give a page, to take one and to keep
 // what was taken, each disk says itself, as relations between the disk before and after.
@@ -20,13 +18,13 @@ pub trait Disk {
     fn pages(&self) -> u64
         ensures { result ≡ size self.now };
 
-    fn read_page(&mut self, page: u64, into: &mut [u8]) -> io::Result<()>
-        requires { (page < size self.old) × (length into.old ≡ 512) }
+    fn read_page(&mut self, page: u64, into: &mut [u8; PAGE_LEN]) -> io::Result<()>
+        requires { page < size self.old }
         ensures gave { OnOk result (gave self.old page into.new self.new) }
         ensures size { size self.new ≡ size self.old };
 
-    fn write_page(&mut self, page: u64, bytes: &[u8]) -> io::Result<()>
-        requires { (page < size self.old) × (length bytes.now ≡ 512) }
+    fn write_page(&mut self, page: u64, bytes: &[u8; PAGE_LEN]) -> io::Result<()>
+        requires { page < size self.old }
         ensures took { OnOk result (took self.old page bytes.now self.new) }
         ensures size { size self.new ≡ size self.old };
 
@@ -34,4 +32,31 @@ pub trait Disk {
     fn sync(&mut self) -> io::Result<()>
         ensures kept { OnOk result (kept self.old self.new) }
         ensures size { size self.new ≡ size self.old };
+}
+
+// A disk that is lent is a disk: what is done to it is done to the one that was lent.
+impl<D: Disk> Disk for &mut D {
+    ghost size = { λ d. D.size d.now };
+
+    ghost gave = { λ d k p e. D.gave d.now k p e.now };
+
+    ghost took = { λ d k p e. D.took d.now k p e.now };
+
+    ghost kept = { λ d e. D.kept d.now e.now };
+
+    fn pages(&self) -> u64 {
+        (**self).pages()
+    }
+
+    fn read_page(&mut self, page: u64, into: &mut [u8; PAGE_LEN]) -> io::Result<()> {
+        (**self).read_page(page, into)
+    }
+
+    fn write_page(&mut self, page: u64, bytes: &[u8; PAGE_LEN]) -> io::Result<()> {
+        (**self).write_page(page, bytes)
+    }
+
+    fn sync(&mut self) -> io::Result<()> {
+        (**self).sync()
+    }
 }

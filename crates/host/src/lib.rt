@@ -3,7 +3,12 @@
 #![tactic(auto)]
 
 mod disk;
+mod ending;
 mod machine;
+mod world;
 
-pub use disk::{Disk, PAGE_LEN};
-pub use machine::{Ended, Fault, Machine, Rows};
+pub use disk::Disk;
+pub use ending::{Answer, Fault, Refused, answer};
+pub use house::{MOST_HOUSES, PAGE_LEN};
+pub use machine::Machine;
+pub use world::{Rows, World};

@@ -1,86 +1,20 @@
 // One house at work: its memory, and the acts of a command, one after another.
-ghost use Rattle.std.specs.Prelude.{◌≡◌, ℕ, ◌<◌, ◌≤◌, List, length, IfOk, vec_len, OnOk};
+ghost use Rattle.std.specs.Prelude.{◌≡◌, IfOk, vec_len};
 ghost use Rattle.model.specs.Run.{Engine, on, said};
 ghost use Rattle.house.specs.Machine.{own};
-ghost use Rattle.house.specs.Entry.{event_of};
-ghost use Rattle.host.specs.Goes.{means, page_read, Goes, ToldBy, After, Ends};
+ghost use Rattle.house.specs.Told.{event_meant};
+ghost use Rattle.host.specs.Goes.{means, Goes, ToldBy, After, Ends};
 
-use super::{Disk, PAGE_LEN};
-use house::{MEMORY_LEN, OUT_LEN, Told, kind, step};
+use super::{Answer, Disk, Fault, PAGE_LEN, Rows, World, answer};
+use house::{Event, Identity, MEMORY_LEN, OUT_LEN, Told};
 use std::alloc::{AllocError, Global};
-use std::{fmt, io};
 
-// Where the rows go that a command shows. What it is to show one, each place says itself.
-pub trait Rows {
-    ghost showed: { Self → List ℕ → Self → Type 0 };
-
-    fn show(&mut self, row: &[u8]) -> io::Result<()>
-        ensures { OnOk result (showed self.old row.now self.new) };
-}
-
-// How a command ended.
-#[derive(Clone, Copy, PartialEq, Eq)]
-pub enum Ended {
-    Done,
-    Refused(u64),
-}
-
-// What keeps a command from its end.
-#[derive(Drop)]
-pub enum Fault {
-    Io(io::Error),
-    // The house asked for a page that there isn't.
-    NoSuchPage(u64),
-    // The house showed more bytes than the row has.
-    LongRow(u64),
-    // It never came to an end.
-    Endless,
-}
-
-impl From<io::Error> for Fault {
-    fn from(e: io::Error) -> Fault {
-        Fault::Io(e)
-    }
-}
-
-impl From<AllocError> for Fault {
-    fn from(e: AllocError) -> Fault {
-        Fault::Io(io::Error::from(e))
-    }
-}
-
-impl fmt::Display for Fault {
-    fn fmt<W: fmt::Write>(&self, f: &mut fmt::Formatter<W>) -> fmt::Result {
-        match self {
-            Fault::Io(e) => write!(f, "{e}"),
-            Fault::NoSuchPage(page) => write!(
-                f,
-                "the house asked for page {page}, which is not there"
-            ),
-            Fault::LongRow(len) => write!(f, "the house showed a row of {len} bytes"),
-            Fault::Endless => write!(f, "the command did not end"),
-        }
-    }
-}
-
-// The bytes that tell of power: three numbers of eight bytes.
-fn power_bytes(house: u64, houses: u64, pages: u64) -> [u8; 24]
-    ensures { event_of 0 result ≡ on house houses pages }
-{
-    let mut numbers = [0u8; 24];
-    numbers[0..8].copy_from_slice(&house.to_be_bytes());
-    numbers[8..16].copy_from_slice(&houses.to_be_bytes());
-    numbers[16..24].copy_from_slice(&pages.to_be_bytes());
-    numbers
-}
-
-// A house's memory, the row that a step lends for pages and rows, and the page that was read last.
+// The memory, and the row that a step lends for pages and rows: vectors, since a boxed array is made on the stack first, and the memory has 2 MiB.
 #[derive(Drop)]
 pub struct Machine {
     memory: Vec<u64>,
     row: Vec<u8>,
-    page: Vec<u8>,
-    ghost sized: { (vec_len memory ≡ 262144) × (vec_len row ≡ 131072) × (vec_len page ≡ 512) },
+    ghost sized: { (vec_len memory ≡ 262144) × (vec_len row ≡ 131072) },
 }
 
 impl Machine {
@@ -90,124 +24,126 @@ impl Machine {
     {
         let memory = vec![in heap; 0; MEMORY_LEN]?;
         let row = vec![in heap; 0; OUT_LEN]?;
-        let page = vec![in heap; 0; PAGE_LEN]?;
-        Ok(Machine { memory, row, page })
+        Ok(Machine { memory, row })
+    }
+
+    // Takes over the memory of another house.
+    pub fn take_memory(&mut self, other: &Machine)
+        ensures { self.new.memory.items ≡ other.now.memory.items }
+    {
+        self.memory.copy_from_slice(other.memory.as_slice());
     }
 
     // Tells the house of an event.
-    fn tell(&mut self, kind: u64, bytes: &[u8]) -> Told
-        requires { kind ≤ 5 }
-        ensures { ToldBy self.old.memory.items self.old.row.items (event_of kind bytes.now) result self.new.memory.items self.new.row.items }
+    fn tell(&mut self, event: Event<'_>) -> Told
+        ensures { ToldBy self.old.memory.items self.old.row.items (event_meant event.entry) result self.new.memory.items self.new.row.items }
     {
-        step(
-            self.memory.as_mut_slice(),
-            kind,
-            bytes,
-            self.row.as_mut_slice(),
-        )
+        house::tell(self.memory.as_mut_slice(), event, self.row.as_mut_slice())
     }
 
-    // Tells it of the page that was read last.
-    fn tell_page(&mut self) -> Told
-        ensures { ToldBy self.old.memory.items self.old.row.items (page_read self.old.page.items) result self.new.memory.items self.new.row.items }
+    // Power comes to a house that has none, and it is told which house it is: its first act.
+    pub fn wake(&mut self, identity: Identity) -> Told
+        ensures { ToldBy own.start self.old.row.items (on identity.house identity.houses identity.pages) result self.new.memory.items self.new.row.items }
     {
-        step(
-            self.memory.as_mut_slice(),
-            kind::PAGE,
-            self.page.as_slice(),
-            self.row.as_mut_slice(),
-        )
+        self.memory.fill(0);
+        self.tell(Event::Power(identity))
     }
 
-    // Does one act, and tells the house what came of it.
-    fn act<D: Disk, R: Rows>(
+    // Says a command to the house: its first act.
+    pub fn say(&mut self, text: &[u8]) -> Told
+        ensures { ToldBy self.old.memory.items self.old.row.items (said text.now) result self.new.memory.items self.new.row.items }
+    {
+        self.tell(Event::Said(text))
+    }
+
+    // Does one act, and tells the house what came of it: the next act. After the last there is none, and it stays.
+    // The disk keeps its size even where this fails: no type can say so of a disk that is lent, so each function that does acts says it.
+    pub fn act<D: Disk, R: Rows>(
         &mut self,
         told: Told,
-        disk: &mut D,
-        rows: &mut R,
+        world: &mut World<D, R>,
     ) -> Result<Told, Fault>
-        ensures after { IfOk result (λ t. After (means D.Disk.gave D.Disk.took D.Disk.kept R.Rows.showed) told self.old.memory.items self.old.row.items disk.old rows.old t self.new.memory.items self.new.row.items disk.new rows.new) }
-        ensures size { D.Disk.size disk.new ≡ D.Disk.size disk.old }
+        ensures after { IfOk result (λ t. After (means D.gave D.took D.kept R.showed) told self.old.memory.items self.old.row.items world.old.disk world.old.rows t self.new.memory.items self.new.row.items world.new.disk world.new.rows) }
+        ensures size { D.size world.new.disk ≡ D.size world.old.disk }
     {
         match told {
             Told::Read(page) => {
-                if page >= disk.pages() {
-                    return Err(Fault::NoSuchPage(page));
-                }
-                disk.read_page(page, self.page.as_mut_slice())?;
-                Ok(self.tell_page())
+                world.find(page)?;
+                let mut bytes = [0; PAGE_LEN];
+                world.disk.read_page(page, &mut bytes)?;
+                Ok(self.tell(Event::Page(&bytes)))
             }
             Told::Write(page) => {
-                if page >= disk.pages() {
-                    return Err(Fault::NoSuchPage(page));
-                }
-                disk.write_page(page, &self.row[0..PAGE_LEN])?;
-                Ok(self.tell(kind::NEXT, &[]))
+                world.find(page)?;
+                let bytes = self.row.first_chunk().unwrap();
+                world.disk.write_page(page, bytes)?;
+                Ok(self.tell(Event::Next))
             }
             Told::Flush => {
-                disk.sync()?;
-                Ok(self.tell(kind::NEXT, &[]))
+                world.disk.sync()?;
+                Ok(self.tell(Event::Next))
             }
             Told::Shows(len) => {
                 if len > OUT_LEN as u64 {
                     return Err(Fault::LongRow(len));
                 }
-                rows.show(&self.row[0..len as usize])?;
-                Ok(self.tell(kind::NEXT, &[]))
+                world.rows.show(&self.row[..len as usize])?;
+                Ok(self.tell(Event::Next))
             }
-            Told::Send(_) => Ok(self.tell(kind::LOST, &[])),
+            Told::Send(_) => Ok(self.tell(Event::Lost)),
             Told::Done | Told::No(_) => Ok(told),
         }
     }
 
     // Goes on from an act to the end of the command.
-    fn finish<D: Disk, R: Rows>(
+    pub fn finish<D: Disk, R: Rows>(
         &mut self,
         first: Told,
-        disk: &mut D,
-        rows: &mut R,
-    ) -> Result<Ended, Fault>
-        ensures ends { IfOk result (λ e. Ends (means D.Disk.gave D.Disk.took D.Disk.kept R.Rows.showed) first self.old.memory.items self.old.row.items disk.old rows.old e self.new.memory.items disk.new rows.new) }
-        ensures size { D.Disk.size disk.new ≡ D.Disk.size disk.old }
+        world: &mut World<D, R>,
+    ) -> Result<Answer, Fault>
+        ensures ends { IfOk result (λ a. Ends (means D.gave D.took D.kept R.showed) first self.old.memory.items self.old.row.items world.old.disk world.old.rows a self.new.memory.items world.new.disk world.new.rows) }
+        ensures size { D.size world.new.disk ≡ D.size world.old.disk }
     {
         let mut told = first;
+        // Nothing here tells when a house comes to its end, so the count is the largest that there is.
         for _ in 0..u64::MAX {
-            match told {
-                Told::Done => return Ok(Ended::Done),
-                Told::No(number) => return Ok(Ended::Refused(number)),
-                _ => told = self.act(told, disk, rows)?,
+            if let Some(answer) = answer(told) {
+                return Ok(answer);
             }
+            told = self.act(told, world)?;
         }
         Err(Fault::Endless)
     }
 
-    // Power comes to a house that has none: its number, and how many houses there are.
+    // Power comes to a house that has none: its number and how many houses there are; the pages are the disk's own number.
     pub fn power<D: Disk, R: Rows>(
         &mut self,
         house: u64,
         houses: u64,
-        disk: &mut D,
-        rows: &mut R,
-    ) -> Result<Ended, Fault>
-        ensures goes { IfOk result (λ e. Goes (means D.Disk.gave D.Disk.took D.Disk.kept R.Rows.showed) own.start disk.old rows.old (on house houses (D.Disk.size disk.old)) e self.new.memory.items disk.new rows.new) }
-        ensures size { D.Disk.size disk.new ≡ D.Disk.size disk.old }
+        world: &mut World<D, R>,
+    ) -> Result<Answer, Fault>
+        ensures goes { IfOk result (λ a. Goes (means D.gave D.took D.kept R.showed) own.start world.old.disk world.old.rows (on house houses (D.size world.old.disk)) a self.new.memory.items world.new.disk world.new.rows) }
+        ensures size { D.size world.new.disk ≡ D.size world.old.disk }
     {
-        self.memory.fill(0);
-        let first = self.tell(kind::POWER, &power_bytes(house, houses, disk.pages()));
-        self.finish(first, disk, rows)
+        let identity = Identity {
+            house,
+            houses,
+            pages: world.disk.pages(),
+        };
+        let first = self.wake(identity);
+        self.finish(first, world)
     }
 
     // Says a command to the house, and does what it asks for until the command ends.
     pub fn command<D: Disk, R: Rows>(
         &mut self,
         text: &[u8],
-        disk: &mut D,
-        rows: &mut R,
-    ) -> Result<Ended, Fault>
-        ensures goes { IfOk result (λ e. Goes (means D.Disk.gave D.Disk.took D.Disk.kept R.Rows.showed) self.old.memory.items disk.old rows.old (said text.now) e self.new.memory.items disk.new rows.new) }
-        ensures size { D.Disk.size disk.new ≡ D.Disk.size disk.old }
+        world: &mut World<D, R>,
+    ) -> Result<Answer, Fault>
+        ensures goes { IfOk result (λ a. Goes (means D.gave D.took D.kept R.showed) self.old.memory.items world.old.disk world.old.rows (said text.now) a self.new.memory.items world.new.disk world.new.rows) }
+        ensures size { D.size world.new.disk ≡ D.size world.old.disk }
     {
-        let first = self.tell(kind::SAID, text);
-        self.finish(first, disk, rows)
+        let first = self.say(text);
+        self.finish(first, world)
     }
 }

@@ -4,18 +4,15 @@
 
 ghost use Rattle.std.specs.Prelude.{◌≡◌, ◌+◌, ◌*◌, ◌<◌, ◌≤◌, IfOk, MatchResult};
 
-use host::Disk;
+use host::{Disk, PAGE_LEN};
+pub use pages::places::{LEAST_PAGES, MOST_PAGES};
 use std::fs::{File, OpenFile, OpenOptions};
+use std::io;
 use std::io::{Read, Seek, SeekFrom, Write};
-use std::{fmt, io};
+use thiserror::Error;
 
-// How many bytes a page has.
-const PAGE_BYTES: u64 = 512;
-
-// A house has at least so many pages, and at most so many.
-pub const FIRST_PAGES: u64 = 256;
-
-pub const MOST_PAGES: u64 = 1_048_576;
+// How many bytes a page has, as a number of a file's.
+const PAGE_BYTES: u64 = PAGE_LEN as u64;
 
 // A file of pages that is open for reading and writing.
 #[derive(Drop)]
@@ -35,7 +32,7 @@ impl PageFile {
     }
 }
 
-// No contract can say what a file holds.
+// No contract can say what a file holds. Each seeks first: positioned calls rest on two more unproved functions of the system.
 impl Disk for PageFile {
     ghost size = { λ f. f.pages };
 
@@ -49,13 +46,13 @@ impl Disk for PageFile {
         self.pages
     }
 
-    fn read_page(&mut self, page: u64, into: &mut [u8]) -> io::Result<()> {
+    fn read_page(&mut self, page: u64, into: &mut [u8; PAGE_LEN]) -> io::Result<()> {
         let place = self.place(page);
         self.file.seek(SeekFrom::Start(place))?;
         self.file.read_exact(into)
     }
 
-    fn write_page(&mut self, page: u64, bytes: &[u8]) -> io::Result<()> {
+    fn write_page(&mut self, page: u64, bytes: &[u8; PAGE_LEN]) -> io::Result<()> {
         let place = self.place(page);
         self.file.seek(SeekFrom::Start(place))?;
         self.file.write_all(bytes)
@@ -67,48 +64,27 @@ impl Disk for PageFile {
 }
 
 // Why a file of pages can't be opened.
-#[derive(Drop)]
+#[derive(Debug, Drop, Error)]
 pub enum OpenError {
-    Io(io::Error),
+    #[error("{0}; it must be a file of pages that may be read and written, or a new name in a folder that is there")]
+    Io(#[from] io::Error),
     // Its length in bytes is not a number of pages.
+    #[error("it has {0} bytes, which is not a number of pages of 512 bytes: is it another file?")]
     NotPages(u64),
     // It has, or is to have, so many pages: too few or too many.
+    #[error("{0} pages of 512 bytes, but a house has 256 to 1048576: name another file")]
     Pages(u64),
 }
 
-impl From<io::Error> for OpenError {
-    fn from(e: io::Error) -> OpenError {
-        OpenError::Io(e)
-    }
-}
-
-impl fmt::Display for OpenError {
-    fn fmt<W: fmt::Write>(&self, f: &mut fmt::Formatter<W>) -> fmt::Result {
-        match self {
-            OpenError::Io(e) => write!(
-                f,
-                "{e}; it must be a file of pages that may be read and written, or a new name in a folder that is there"
-            ),
-            OpenError::NotPages(len) => write!(
-                f,
-                "it has {len} bytes, which is not a number of pages of 512 bytes: is it another file?"
-            ),
-            OpenError::Pages(pages) => write!(
-                f,
-                "{pages} pages of 512 bytes, but a house has 256 to 1048576: name another file"
-            ),
-        }
-    }
-}
-
-// Whether a house can have so many pages.
+// So many pages, if a house can have them: not too few and not too many.
 fn few_enough(pages: u64) -> Result<u64, OpenError>
     ensures { MatchResult result (λ p. (p ≡ pages) × (256 ≤ p) × (p ≤ 1048576)) (λ e. (e ≡ OpenError.Pages pages) × (256 ≤ pages → 1048576 < pages)) }
 {
-    if pages < FIRST_PAGES || pages > MOST_PAGES {
-        return Err(OpenError::Pages(pages));
+    if (LEAST_PAGES..=MOST_PAGES).contains(&pages) {
+        Ok(pages)
+    } else {
+        Err(OpenError::Pages(pages))
     }
-    Ok(pages)
 }
 
 impl PageFile {
@@ -140,7 +116,6 @@ impl PageFile {
 #[cfg(test)]
 mod tests {
     use super::*;
-    use host::PAGE_LEN;
     use std::fs;
     use std::test::Fail;
 
@@ -168,9 +143,7 @@ mod tests {
 
     #[test]
     fn pages_come_back(rt: HostRuntime) -> Result<(), Fail> {
-        let Ok(mut file) = PageFile::create(&rt, "back.test", 256) else {
-            return Err(Fail::new("no file"));
-        };
+        let mut file = PageFile::create(&rt, "back.test", 256)?;
         assert!(rt; file.pages() == 256);
         let mut page = [7u8; PAGE_LEN];
         file.write_page(255, &page)?;
@@ -182,18 +155,15 @@ mod tests {
         fs::remove_file(&rt, "back.test")?;
         Ok(())
     }
+
     // The header lies on page 0: what was written there is there when the file is opened again, and nothing came onto the page beside it.
     #[test]
     fn the_first_page_is_there_again(rt: HostRuntime) -> Result<(), Fail> {
-        let Ok(mut file) = PageFile::create(&rt, "again.test", 256) else {
-            return Err(Fail::new("no file"));
-        };
+        let mut file = PageFile::create(&rt, "again.test", 256)?;
         file.write_page(0, &[9; PAGE_LEN])?;
         file.sync()?;
         drop(file);
-        let Ok(mut file) = PageFile::open(&rt, "again.test") else {
-            return Err(Fail::new("the file is refused"));
-        };
+        let mut file = PageFile::open(&rt, "again.test")?;
         let mut page = [1; PAGE_LEN];
         file.read_page(0, &mut page)?;
         assert!(rt; page[0] == 9 && page[511] == 9);

@@ -1,7 +1,7 @@
 -- What may be asked for on the command line.
 use Rattle.std.specs.Prelude.{ℕ, ◌<◌, ◌≤◌, Some, None, Option}
 use Rattle.posthouse.specs.declared.options.Wish.{Wish}
-use Rattle.posthouse.specs.declared.options.Wish.TheVariants.{Help, House, Bad}
+use Rattle.posthouse.specs.declared.options.Wish.TheVariants.{Help, House}
 
 -- one of so many houses, at most 16
 abbrev pub OneOf : ℕ → ℕ → Type 0
@@ -20,4 +20,3 @@ pages_of (Some n) = n
 abbrev pub Proper : Wish → Type 0
 Proper Help = Unit {0}
 Proper (House o) = OneOf o.house o.houses × Pages o.pages
-Proper (Bad m) = Unit {0}

@@ -5,13 +5,13 @@
 mod options;
 mod session;
 
-use anyhow::anyhow;
-use host::{Disk, Machine};
-use options::{Options, Wish};
+use host::{Disk, Fault, Machine, World};
+use options::{Options, UsageError, Wish};
 use pagefile::{OpenError, PageFile};
-use session::Session;
+use session::{Printed, Session};
 use std::process::ExitCode;
-use std::{env, fs};
+use std::{env, fs, io};
+use thiserror::Error;
 
 const HELP: &str = "posthouse: a post house on a file of pages
 
@@ -38,64 +38,71 @@ fn open(rt: &HostRuntime, options: &Options) -> Result<PageFile, OpenError> {
     }
 }
 
-// Says what is wrong, and that nothing was done.
-fn complain(rt: &HostRuntime, message: &str) -> anyhow::Result<()> {
-    eprintln!(rt; "posthouse: {message}")?;
-    Err(anyhow!("nothing was done"))
+// What stops the program.
+#[derive(Debug, Drop, Error)]
+enum Trouble {
+    #[error(transparent)]
+    Usage(#[from] UsageError),
+    #[error("can't open '{path}': {error}")]
+    Open { path: String, error: OpenError },
+    #[error("'{path}' has {has} pages, not {pages}: leave the number out, or name another file")]
+    OtherPages { path: String, has: u64, pages: u64 },
+    #[error("the house stopped: {0}; what was answered with 'done' is kept, so start it again")]
+    Stopped(#[from] Fault),
+    // Reading, writing or memory that failed before the house had power: it shows in the status alone.
+    #[error(transparent)]
+    Unsaid(#[from] io::Error),
 }
 
-// One sitting, from power to the last line. What stops it is told.
-fn sit(rt: &HostRuntime, options: &Options, file: PageFile) -> anyhow::Result<()> {
-    let machine = Machine::new(rt.alloc())?;
-    let mut session = Session { rt, file, machine };
-    match session.run(options.house, options.houses) {
-        Ok(()) => Ok(()),
-        Err(fault) => {
-            eprintln!(rt;
-                "posthouse: the house stopped: {fault}; what was answered with 'done' is kept, so start it again"
-            )?;
-            Err(anyhow!("the house stopped"))
+// One sitting, from power to the last line.
+fn keep_house(rt: &HostRuntime, options: Options) -> Result<(), Trouble> {
+    let disk = match open(rt, &options) {
+        Ok(disk) => disk,
+        Err(error) => {
+            return Err(Trouble::Open {
+                path: options.path,
+                error,
+            });
         }
+    };
+    let has = disk.pages();
+    if let Some(pages) = options.pages
+        && pages != has
+    {
+        return Err(Trouble::OtherPages {
+            path: options.path,
+            has,
+            pages,
+        });
     }
+    let machine = Machine::new(rt.alloc()).map_err(io::Error::from)?;
+    let rows = Printed { rt };
+    let mut session = Session {
+        rt,
+        machine,
+        world: World { disk, rows },
+    };
+    session.run(options.house, options.houses)?;
+    Ok(())
 }
 
-fn keep_house(rt: &HostRuntime, options: &Options) -> anyhow::Result<()> {
-    let path = options.path.as_str();
-    match open(rt, options) {
-        Ok(file) => {
-            if let Some(pages) = options.pages
-                && pages != file.pages()
-            {
-                let has = file.pages();
-                eprintln!(rt;
-                    "posthouse: '{path}' has {has} pages, not {pages}: leave the number out, or name another file"
-                )?;
-                return Err(anyhow!("another number of pages"));
-            }
-            sit(rt, options, file)
-        }
-        Err(e) => {
-            eprintln!(rt; "posthouse: can't open '{path}': {e}")?;
-            Err(anyhow!("the file can't be opened"))
-        }
+// Does what the command line asks for.
+fn start(rt: &HostRuntime) -> Result<(), Trouble> {
+    match options::read(env::args(rt)?)? {
+        Wish::Help => rt.println(HELP)?,
+        Wish::House(options) => keep_house(rt, options)?,
     }
+    Ok(())
 }
 
-fn start(rt: &HostRuntime) -> anyhow::Result<()> {
-    match options::read(env::args(rt)?) {
-        Wish::Help => {
-            rt.println(HELP)?;
-            Ok(())
-        }
-        Wish::Bad(message) => complain(rt, message),
-        Wish::House(options) => keep_house(rt, &options),
-    }
-}
-
-// A complaint was printed where it came up, so only the status is left; reading, writing or memory that failed here shows in the status alone.
+// Says what stops the program; where that fails too, it shows in the status alone.
 fn main(rt: HostRuntime) -> ExitCode {
     match start(&rt) {
-        Ok(()) => ExitCode::SUCCESS,
-        Err(_) => ExitCode::FAILURE,
+        Ok(()) => return ExitCode::SUCCESS,
+        Err(Trouble::Unsaid(_)) => {}
+        Err(trouble) => {
+            let _ = eprintln!(rt; "posthouse: {trouble}");
+        }
     }
+    ExitCode::FAILURE
 }

@@ -1,15 +1,16 @@
 // What is asked for on the command line.
 ghost use Rattle.std.specs.Prelude.{◌≡◌, IfOk};
-ghost use Rattle.posthouse.specs.Proper.{OneOf, Pages, Proper, pages_of};
+ghost use Rattle.posthouse.specs.Proper.{Pages, Proper, pages_of};
 
+use host::MOST_HOUSES;
+use pagefile::{LEAST_PAGES, MOST_PAGES};
 use std::env::Args;
-
-// The most houses that there can be.
-const MOST_HOUSES: u64 = 16;
+use thiserror::Error;
 
 // How many pages a new file has unless another number is said.
 const USUAL_PAGES: u64 = 65_536;
 
+// A house and its file of pages, and how many pages the file has or gets, if a number is said.
 #[derive(Drop)]
 pub struct Options {
     pub path: String,
@@ -18,12 +19,26 @@ pub struct Options {
     pub pages: Option<u64>,
 }
 
+// What the words ask for.
 #[derive(Drop)]
 pub enum Wish {
     Help,
     House(Options),
-    // What is wrong with the words.
-    Bad(&'static str),
+}
+
+// What is wrong with the words.
+#[derive(Clone, Copy, Debug, PartialEq, Eq, Error)]
+pub enum UsageError {
+    #[error("FILE, HOUSE and HOUSES are needed; --help says more")]
+    FewWords,
+    #[error("there is a word too many; --help says more")]
+    ManyWords,
+    #[error("HOUSES is a number from 1 to 16")]
+    Houses,
+    #[error("HOUSE is a number from 0 to one less than HOUSES")]
+    House,
+    #[error("PAGES is a number from 256 to 1048576")]
+    Pages,
 }
 
 impl Options {
@@ -35,90 +50,50 @@ impl Options {
     }
 }
 
-const FEW_WORDS: &str = "FILE, HOUSE and HOUSES are needed; --help says more";
-
-const BAD_HOUSES: &str = "HOUSES is a number from 1 to 16";
-
-const BAD_HOUSE: &str = "HOUSE is a number from 0 to one less than HOUSES";
-
-const BAD_PAGES: &str = "PAGES is a number from 256 to 1048576";
-
-const MANY_WORDS: &str = "there is a word too many; --help says more";
-
-fn number(word: Option<String>) -> Option<u64> {
-    match word {
-        Some(text) => text.as_str().parse::<u64>().ok(),
-        None => None,
-    }
+// The number that a word spells.
+fn number(word: &str) -> Option<u64> {
+    word.parse().ok()
 }
 
-// The house's number and how many there are, if they go together.
-fn houses(house: Option<String>, houses: Option<String>) -> Result<(u64, u64), &'static str>
-    ensures { IfOk result (λ p. OneOf p.0 p.1) }
-{
-    let Some(houses) = number(houses) else {
-        return Err(BAD_HOUSES);
-    };
-    if houses < 1 || houses > MOST_HOUSES {
-        return Err(BAD_HOUSES);
-    }
-    match number(house) {
-        Some(house) => {
-            if house >= houses {
-                return Err(BAD_HOUSE);
-            }
-            Ok((house, houses))
-        }
-        None => Err(BAD_HOUSE),
-    }
-}
-
-fn pages(word: Option<String>) -> Result<Option<u64>, &'static str>
+// The number of pages that a word says, where there is one.
+fn pages(word: Option<String>) -> Result<Option<u64>, UsageError>
     ensures { IfOk result Pages }
 {
-    match word {
-        None => Ok(None),
-        Some(text) => match text.as_str().parse::<u64>() {
-            Ok(n) => {
-                if n < pagefile::FIRST_PAGES || n > pagefile::MOST_PAGES {
-                    return Err(BAD_PAGES);
-                }
-                Ok(Some(n))
-            }
-            Err(_) => Err(BAD_PAGES),
-        },
-    }
+    let Some(word) = word else {
+        return Ok(None);
+    };
+    let pages = number(word.as_str())
+        .filter(|n| (LEAST_PAGES..=MOST_PAGES).contains(n))
+        .ok_or(UsageError::Pages)?;
+    Ok(Some(pages))
 }
 
 // The words after the program's name. What is asked for can be had.
-pub fn read(args: Args) -> Wish
-    ensures { Proper result }
+pub fn read(mut words: Args) -> Result<Wish, UsageError>
+    ensures { IfOk result Proper }
 {
-    let mut words = args;
     let _program = words.next();
-    let Some(path) = words.next() else {
-        return Wish::Bad(FEW_WORDS);
-    };
-    if path.as_str() == "--help" || path.as_str() == "-h" {
-        return Wish::Help;
+    let path = words.next().ok_or(UsageError::FewWords)?;
+    if matches!(path.as_str(), "--help" | "-h") {
+        return Ok(Wish::Help);
     }
-    let house = words.next();
-    let count = words.next();
-    if count.is_none() {
-        return Wish::Bad(FEW_WORDS);
-    }
-    let asked = pages(words.next());
+    let house = words.next().ok_or(UsageError::FewWords)?;
+    let houses = words.next().ok_or(UsageError::FewWords)?;
+    let asked = words.next();
     if words.next().is_some() {
-        return Wish::Bad(MANY_WORDS);
+        return Err(UsageError::ManyWords);
     }
-    match (houses(house, count), asked) {
-        (Ok((house, houses)), Ok(pages)) => Wish::House(Options {
-            path,
-            house,
-            houses,
-            pages,
-        }),
-        (Err(message), _) => Wish::Bad(message),
-        (_, Err(message)) => Wish::Bad(message),
-    }
+    let houses = number(houses.as_str())
+        .filter(|n| (1..=MOST_HOUSES).contains(n))
+        .ok_or(UsageError::Houses)?;
+    let house = number(house.as_str())
+        .filter(|n| *n < houses)
+        .ok_or(UsageError::House)?;
+    let pages = pages(asked)?;
+    Ok(Wish::House(Options {
+        path,
+        house,
+        houses,
+        pages,
+    }))
 }

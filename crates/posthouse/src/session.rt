@@ -1,14 +1,14 @@
 // One sitting of a house: power, and then a command for each line of standard input.
 use hexadecimal::{from_hex, to_hex};
-use host::{Ended, Fault, Machine, Rows};
+use host::{Fault, Machine, Rows, World};
 use pagefile::PageFile;
 use std::io;
 use std::io::{BufRead, BufReader};
 
 // Rows go to standard output, in hexadecimal; no contract can say what is printed.
 #[derive(Drop)]
-struct Printed<'a> {
-    rt: &'a HostRuntime,
+pub struct Printed<'a> {
+    pub rt: &'a HostRuntime,
 }
 
 impl Rows for Printed<'_> {
@@ -20,19 +20,20 @@ impl Rows for Printed<'_> {
     }
 }
 
+// A house with power, or about to get it, and what it works on: a file of pages, and standard output for its rows.
 #[derive(Drop)]
 pub struct Session<'a> {
     pub rt: &'a HostRuntime,
-    pub file: PageFile,
     pub machine: Machine,
+    pub world: World<PageFile, Printed<'a>>,
 }
 
 impl Session<'_> {
+    // Tells the house a command, and prints how it ended.
     fn say(&mut self, text: &[u8]) -> Result<(), Fault> {
-        let mut rows = Printed { rt: self.rt };
-        match self.machine.command(text, &mut self.file, &mut rows)? {
-            Ended::Done => println!(self.rt; "done")?,
-            Ended::Refused(number) => println!(self.rt; "refused {number}")?,
+        match self.machine.command(text, &mut self.world)? {
+            Ok(()) => println!(self.rt; "done")?,
+            Err(refused) => println!(self.rt; "{refused}")?,
         }
         Ok(())
     }
@@ -51,16 +52,12 @@ impl Session<'_> {
         }
     }
 
-    // Power, and then every line until there is no more.
+    // Power, and then every line until there is no more. A house that refuses power refuses each command after it.
     pub fn run(&mut self, house: u64, houses: u64) -> Result<(), Fault> {
-        let mut rows = Printed { rt: self.rt };
-        self.machine
-            .power(house, houses, &mut self.file, &mut rows)?;
+        let _ = self.machine.power(house, houses, &mut self.world)?;
         let heap = self.rt.alloc();
-        let mut number: u64 = 0;
         let lines = BufReader::new(heap, self.rt.stdin())?;
-        for line in lines.split(heap, b'\n') {
-            number = number.saturating_add(1);
+        for (line, number) in lines.split(heap, b'\n').zip(1..=u64::MAX) {
             self.line(line?.as_slice(), number)?;
         }
         Ok(())

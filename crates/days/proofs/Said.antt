@@ -1,9 +1,13 @@
 -- How many commands the items of a day say.
-use Rattle.std.proofs.Common.{◌≡◌, ℕ, ◌+◌, ◌<◌, ◌≤◌, List, [], ◌∷◌, ◌++◌, length, get_or, take, sym, ap, ◌∙◌, arith}
+use Rattle.std.proofs.Common.{◌≡◌, ℕ, ◌+◌, ◌<◌, ◌≤◌, List, [], ◌∷◌, ◌++◌, length, get_or, take, refl, sym, ap, ◌∙◌, arith}
 use Rattle.std.proofs.lemmas.List.{take_more, length-take}
 use Rattle.days.specs.declared.make.Item.{Item}
-use Rattle.days.specs.declared.make.Item.TheVariants.{Power, PowerStops, Whole, Stops}
+use Rattle.days.specs.declared.make.Item.TheVariants.{Power, Said}
 use Rattle.days.specs.Played.{says, all_said, counted}
+
+pub said_none : all_said [] ≡ 0
+unfolding all_said
+said_none = refl
 
 pub said_push : (is : List Item) (i : Item) → all_said (is ++ i ∷ []) ≡ all_said is + says i
 unfolding all_said
@@ -11,10 +15,8 @@ said_push [] i = omega arith
 said_push (j ∷ is) i = omega (arith, said_push is i)
 
 says_most : (i : Item) → says i ≤ 1
-says_most Power = omega arith
-says_most (PowerStops s) = omega arith
-says_most (Whole s) = omega arith
-says_most (Stops s t) = omega arith
+says_most (Power t) = omega arith
+says_most (Said s t) = omega arith
 
 pub said_most : (is : List Item) → all_said is ≤ length is
 unfolding all_said
@@ -22,10 +24,8 @@ said_most [] = omega arith
 said_most (i ∷ is) = omega (arith, said_most is, says_most i)
 
 counted_is : (i : Item) (n : ℕ) → n < 18446744073709551615 → counted i n ≡ n + says i
-counted_is Power n h = omega arith
-counted_is (PowerStops s) n h = omega arith
-counted_is (Whole s) n h = omega arith
-counted_is (Stops s t) n h = omega arith
+counted_is (Power t) n h = omega arith
+counted_is (Said s t) n h = omega arith
 
 -- one item more was played
 pub played_more : (is xs : List Item) (k : ℕ) (i : Item) (n m : ℕ) → xs ≡ is → k < length xs → i ≡ get_or xs k i → length is < 18446744073709551616 →

@@ -1,4 +1,3 @@
 pub mod Chance
-pub mod Flat
 pub mod Held
 pub mod Played

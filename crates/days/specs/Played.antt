@@ -1,22 +1,20 @@
 -- What a day says, and what is told of it once it was played.
-use Rattle.std.specs.Prelude.{◌≡◌, ℕ, ◌+◌, ◌<◌, ◌≤◌, min, List, Some, None, vec_items, vec_len, Option, slice_index}
+use Rattle.std.specs.Prelude.{◌≡◌, ℕ, ◌+◌, ◌<◌, ◌≤◌, min, List, Some, None, vec_items, vec_len, Option, Result, Ok, Err, slice_index}
 use Rattle.model.specs.Mail.{added_up}
-use Rattle.days.specs.declared.command.Kind.{Kind}
-use Rattle.days.specs.declared.command.Kind.TheVariants.{Join, HandIn, Boxes, NewBox, DropBox, List as ListKind, Get, SetMark, ToBox, Clear, Rules, Find, Push}
-use Rattle.days.specs.declared.machine.Identity.{Identity}
+use Rattle.commands.specs.declared.kind.Kind.{Kind}
+use Rattle.commands.specs.declared.kind.Kind.TheVariants.{Join, HandIn, Boxes, NewBox, DropBox, List as ListKind, Get, SetMark, ToBox, Clear, Rules, Find, Push}
+use Rattle.house.specs.declared.Identity.{Identity}
 use Rattle.days.specs.declared.make.Day.{Day}
 use Rattle.days.specs.declared.make.Item.{Item}
-use Rattle.days.specs.declared.make.Item.TheVariants.{Power, PowerStops, Whole, Stops}
-use Rattle.days.specs.declared.play.Outcome.{Outcome}
-use Rattle.days.specs.declared.play.Outcome.TheVariants.{Agrees, Differs}
+use Rattle.days.specs.declared.make.Item.TheVariants.{Power, Said}
+use Rattle.days.specs.declared.play.DayError.{DayError}
+use Rattle.days.specs.declared.play.DayError.TheVariants.{NoMemory, Differs}
 use Rattle.days.specs.declared.play.Tally.{Tally}
 
 -- how many commands there are in a part of a day
 abbrev pub says : Item → ℕ
-says Power = 0
-says (PowerStops s) = 0
-says (Whole s) = 1
-says (Stops s t) = 1
+says (Power t) = 0
+says (Said s t) = 1
 
 unfoldable pub all_said : List Item → ℕ
 all_said is = added_up says is
@@ -27,10 +25,8 @@ more_by n m = min (n + m) 18446744073709551615
 
 -- the count of commands after one more item
 abbrev pub counted : Item → ℕ → ℕ
-counted Power n = n
-counted (PowerStops s) n = n
-counted (Whole s) n = more_by n 1
-counted (Stops s t) n = more_by n 1
+counted (Power t) n = n
+counted (Said s t) n = more_by n 1
 
 -- the pages that were asked for, or as many as days are played on
 abbrev pub Sized : Option ℕ → ℕ → Type 0
@@ -40,17 +36,23 @@ Sized (Some n) k = k ≡ n
 abbrev pub Fitting : Option ℕ → Identity → Type 0
 Fitting asked i = (i.house < i.houses) × (i.houses ≤ 16) × Sized asked i.pages
 
+-- a difference is one at this item
+abbrev pub IsAt : ℕ → DayError → Type 0
+IsAt k NoMemory = Unit {0}
+IsAt k (Differs i x) = i ≡ k
+
 -- a day that agrees was played with all its commands; one that differs does so at one of its items
-abbrev pub Played : Day → Outcome → Type 0
-Played d (Agrees t) = t.commands ≡ all_said (vec_items d.items)
-Played d (Differs i x) = i < vec_len d.items
+abbrev pub Played : Day → Result Tally DayError → Type 0
+Played d (Ok t) = t.ends.commands ≡ all_said (vec_items d.items)
+Played d (Err NoMemory) = Unit {0}
+Played d (Err (Differs i x)) = i < vec_len d.items
 
 -- two counts together
 abbrev pub Both : Tally → Tally → Tally → Type 0
 Both t u v =
-    (v.commands ≡ more_by t.commands u.commands) × (v.done ≡ more_by t.done u.done) × (v.stops ≡ more_by t.stops u.stops)
-    × (v.cut_powers ≡ more_by t.cut_powers u.cut_powers)
-    × ((k : ℕ) → k < 10 → slice_index v.refused k ≡ more_by (slice_index t.refused k) (slice_index u.refused k))
+    (v.ends.commands ≡ more_by t.ends.commands u.ends.commands) × (v.ends.done ≡ more_by t.ends.done u.ends.done)
+    × (v.losses.stops ≡ more_by t.losses.stops u.losses.stops) × (v.losses.cut_powers ≡ more_by t.losses.cut_powers u.losses.cut_powers)
+    × ((k : ℕ) → k < 10 → slice_index v.ends.refused k ≡ more_by (slice_index t.ends.refused k) (slice_index u.ends.refused k))
 
 -- how many commands of a kind are measured
 abbrev pub series_len : Kind → ℕ

@@ -4,11 +4,12 @@ ghost use Rattle.model.specs.Device.{blank};
 ghost use Rattle.days.specs.Held.{device_of};
 ghost use Rattle.days.specs.Played.{more_by, series_len};
 
-use super::command::{Command, Kind};
+use super::command::{Command, Kind, spelled};
 use super::device::Device;
-use super::machine::{Acts, Fault, Identity, Machine};
+use super::machine::{Acts, Fault, Machine};
 use super::plain::End;
-use std::alloc::Global;
+use house::Identity;
+use std::alloc::{AllocError, Global};
 
 // So many people join, and each of them gets so many boxes.
 const PEOPLE: u64 = 40;
@@ -25,7 +26,7 @@ pub struct Measured {
 }
 
 // What some commands of a kind, or one power-up, took.
-#[derive(Clone, Copy)]
+#[derive(Clone, Copy, Default)]
 pub struct Cost {
     pub commands: u64,
     pub done: u64,
@@ -33,24 +34,15 @@ pub struct Cost {
 }
 
 impl Cost {
-    fn none() -> Cost
-        ensures { result.commands ≡ 0 }
-    {
-        Cost {
-            commands: 0,
-            done: 0,
-            acts: Acts::none(),
-        }
-    }
-
+    // One command more, that ended so and took these acts.
     fn count(&mut self, end: End, acts: Acts)
         ensures { self.new.commands ≡ more_by self.old.commands 1 }
     {
         self.commands = self.commands.saturating_add(1);
-        if let End::Done = end {
+        if end == End::Done {
             self.done = self.done.saturating_add(1);
         }
-        self.acts.add(acts);
+        self.acts += acts;
     }
 }
 
@@ -59,11 +51,7 @@ impl Measured {
     pub fn new(heap: Global, pages: u64) -> Result<Measured, Fault>
         ensures { IfOk result (λ m. (m.identity ≡ record { house = 0; houses = 1; pages = pages }) × (device_of m.device ≡ record { pages = blank pages; queue = [] })) }
     {
-        let Ok(size) = usize::try_from(pages) else {
-            return Err(Fault::NoMemory);
-        };
-        let device = Device::new(heap, size)?;
-        let machine = Machine::new(heap)?;
+        let size = usize::try_from(pages).map_err(|_| AllocError)?;
         Ok(Measured {
             heap,
             identity: Identity {
@@ -71,26 +59,27 @@ impl Measured {
                 houses: 1,
                 pages,
             },
-            device,
-            machine,
+            device: Device::new(heap, size)?,
+            machine: Machine::new(heap)?,
         })
     }
 
+    // A power-up.
     pub fn power(&mut self) -> Result<Cost, Fault>
         ensures { IfOk result (λ c. c.commands ≡ 1) }
     {
-        let mut cost = Cost::none();
+        let mut cost = Cost::default();
         let ran = self.machine.power_whole(self.identity, &mut self.device)?;
         cost.count(ran.turn.end, ran.acts);
         Ok(cost)
     }
 
+    // A name of its own for each number.
     fn name(&self, number: u64) -> Result<Vec<u8>, Fault> {
-        let text = format!(in self.heap; "name{number}")?;
-        Ok(Vec::from_slice(self.heap, text.as_bytes())?)
+        Ok(format!(in self.heap; "name{number}")?.into_bytes())
     }
 
-    // The command of a kind that comes as this one.
+    // The command of a kind that comes as this one: of the three kinds that are measured; any other is measured as boxes.
     fn command(&self, kind: Kind, number: u64) -> Result<Command, Fault> {
         let person = number % PEOPLE;
         match kind {
@@ -105,16 +94,17 @@ impl Measured {
         }
     }
 
+    // A command, said to its end and counted.
     fn say(&mut self, command: &Command, cost: &mut Cost) -> Result<(), Fault>
         ensures { OnOk result (cost.new.commands ≡ more_by cost.old.commands 1) }
     {
-        let text = command.spelled(self.heap)?;
+        let text = spelled(self.heap, command)?;
         let ran = self.machine.say_whole(text.as_slice(), &mut self.device)?;
         cost.count(ran.turn.end, ran.acts);
         Ok(())
     }
 
-    // The commands of a kind, one after another.
+    // The commands of a kind, one after another: of the three kinds that are measured; any other is measured as boxes.
     pub fn series(&mut self, kind: Kind) -> Result<Cost, Fault>
         ensures { IfOk result (λ c. c.commands ≡ series_len kind) }
     {
@@ -122,7 +112,7 @@ impl Measured {
             Kind::Join => PEOPLE,
             _ => PEOPLE * BOXES,
         };
-        let mut cost = Cost::none();
+        let mut cost = Cost::default();
         for number in 0..count {
             let command = self.command(kind, number)?;
             self.say(&command, &mut cost)?;

@@ -1,17 +1,18 @@
 // Pages in memory, on which a write waits until a flush, and of which a stop leaves what it is told to leave: the device of the model.
-ghost use Rattle.std.specs.Prelude.{◌≡◌, ◌/◌, ◌&&◌, [], length, IfOk, if◌then◌else◌, vec_len, ◌==◌, nat_lt};
+ghost use Rattle.std.specs.Prelude.{◌≡◌, ◌<◌, ◌↔◌, [], length, IfOk, IsSome, IfSome};
 ghost use Rattle.model.specs.Mail.{each};
 ghost use Rattle.model.specs.Device.{blank, read_page, flushed, stopped};
-ghost use Rattle.days.specs.Flat.{placed, all_placed, kept, all_left};
-ghost use Rattle.days.specs.Held.{device_of, leaves_number, Wrote};
+ghost use Rattle.model.specs.Run.{queued};
+ghost use Rattle.days.specs.Held.{device_of, leaves_number, write_of, placed, left_of};
 
-use super::waiting::Waiting;
+use host::{Disk, PAGE_LEN};
 use std::alloc::{AllocError, Global};
+use std::io;
 
-pub const PAGE_LEN: usize = 512;
+pub type Page = [u8; PAGE_LEN];
 
 // A stop in the middle of a write can leave so many of its bytes.
-const HALF_LEN: usize = 256;
+const HALF_LEN: usize = PAGE_LEN / 2;
 
 // What a stop leaves of a write that waits.
 #[derive(Clone, Copy, PartialEq, Eq)]
@@ -21,56 +22,47 @@ pub enum Leaves {
     Half,
 }
 
-#[derive(Drop)]
+// A write that waits: a whole page, and its place.
+#[derive(Clone, Copy)]
+pub struct Waiting {
+    pub page: usize,
+    pub bytes: Page,
+}
+
+// Pages, and the writes to them that wait, the oldest first.
+#[derive(Clone, Drop)]
 pub struct Device {
-    pages: Vec<u8>,
+    pages: Vec<Page>,
     waiting: Vec<Waiting>,
 }
 
-// Puts bytes to the beginning of a page; where there is no such page or the bytes are longer than one, nothing changes.
-fn place(pages: &mut [u8], page: usize, bytes: &[u8])
-    ensures { pages.new ≡ placed pages.old page bytes.now }
-{
-    if page < pages.len() / PAGE_LEN && bytes.len() <= PAGE_LEN {
-        let start = page * PAGE_LEN;
-        pages[start..start + bytes.len()].copy_from_slice(bytes);
-    }
-}
+impl Leaves {
+    // All that can be left of a write.
+    pub const EVERY: [Leaves; 3] = [Leaves::Nothing, Leaves::All, Leaves::Half];
 
-// What a stop leaves of a page that was written.
-fn kept_of(leaves: Leaves, bytes: &[u8]) -> &[u8]
-    requires { length bytes.now ≡ 512 }
-    ensures { result.now ≡ kept leaves bytes.now }
-{
-    match leaves {
-        Leaves::Nothing => &[],
-        Leaves::All => bytes,
-        Leaves::Half => &bytes[0..HALF_LEN],
-    }
-}
-
-// Writes come onto their pages, one after another.
-fn place_all(pages: &mut [u8], writes: &[Waiting])
-    ensures { pages.new ≡ all_placed pages.old writes.now }
-{
-    for write in writes {
-        place(pages, write.page, write.bytes.as_slice());
-    }
-}
-
-// Of each write, in turn, so much comes onto its page; of those not spoken of, nothing.
-fn place_left(pages: &mut [u8], writes: &[Waiting], choices: &[Leaves])
-    ensures { pages.new ≡ all_left pages.old writes.now choices.now }
-{
-    for (i, write) in writes.iter().enumerate() {
-        if i >= choices.len() {
-            return;
+    // What a page holds after a write of which so much is left.
+    fn of(self, new: &Page, old: &Page) -> Page
+        ensures { result ≡ left_of self new.now old.now }
+    {
+        match self {
+            Leaves::Nothing => *old,
+            Leaves::All => *new,
+            Leaves::Half => {
+                let mut page = *old;
+                page[..HALF_LEN].copy_from_slice(&new[..HALF_LEN]);
+                page
+            }
         }
-        place(
-            pages,
-            write.page,
-            kept_of(choices[i], write.bytes.as_slice()),
-        );
+    }
+}
+
+// So much of a write comes onto its page; where there is no such page, nothing changes.
+// A Vec, since what a slice's `get_mut` lends is lost to a proof.
+fn place(pages: &mut Vec<Page>, write: &Waiting, leaves: Leaves)
+    ensures { pages.new.items ≡ placed leaves (write_of write.now) pages.old.items }
+{
+    if let Some(page) = pages.get_mut(write.page) {
+        *page = leaves.of(&write.bytes, page);
     }
 }
 
@@ -79,21 +71,15 @@ impl Device {
     pub fn new(heap: Global, pages: usize) -> Result<Device, AllocError>
         ensures { IfOk result (λ d. device_of d ≡ record { pages = blank pages; queue = [] }) }
     {
-        let Some(len) = pages.checked_mul(PAGE_LEN) else {
-            return Err(AllocError);
-        };
-        let pages = vec![in heap; 0; len]?;
         Ok(Device {
-            pages,
+            pages: vec![in heap; [0; PAGE_LEN]; pages]?,
             waiting: Vec::new(heap),
         })
     }
 
-    pub fn pages(&self) -> usize
-        ensures value { result ≡ length (device_of self.now).pages }
-        ensures bytes { result ≡ vec_len self.now.pages / 512 }
-    {
-        self.pages.len() / PAGE_LEN
+    // The heap on which it is kept.
+    pub(super) fn heap(&self) -> Global {
+        *self.waiting.allocator()
     }
 
     // How many writes wait.
@@ -103,57 +89,23 @@ impl Device {
         self.waiting.len()
     }
 
-    pub fn copy(&self, heap: Global) -> Result<Device, AllocError>
-        ensures { IfOk result (λ d. device_of d ≡ device_of self.now) }
+    // The page as whoever reads sees it, with what waits, if there is such a page.
+    fn read(&self, page: usize) -> Option<&Page>
+        ensures there { IsSome result ↔ page < length (device_of self.now).pages }
+        ensures seen { IfSome result (λ p. p.now ≡ read_page (device_of self.now) page) }
     {
-        let pages = Vec::from_slice(heap, self.pages.as_slice())?;
-        let mut waiting = Vec::new(heap);
-        for write in self.waiting.as_slice() {
-            let bytes = Vec::from_slice(heap, write.bytes.as_slice())?;
-            waiting.push(Waiting {
-                page: write.page,
-                bytes,
-            })?;
-        }
-        Ok(Device { pages, waiting })
+        let kept = self.pages.get(page)?;
+        let waits = self.waiting.iter().rev().find(|write| write.page == page);
+        Some(waits.map_or(kept, |write| &write.bytes))
     }
 
-    // The page as whoever reads sees it, with what waits; false where there is no such page or the row is not a page long, and then the
-    // row stays as it is.
-    pub fn read(&self, page: usize, into: &mut [u8]) -> bool
-        ensures test { result ≡ nat_lt page (length (device_of self.now).pages) && (length into.old == 512) }
-        ensures after { into.new ≡ (if result then read_page (device_of self.now) page else into.old) }
-    {
-        if page >= self.pages() || into.len() != PAGE_LEN {
-            return false;
-        }
-        let start = page * PAGE_LEN;
-        into.copy_from_slice(&self.pages[start..start + PAGE_LEN]);
-        for write in self.waiting.as_slice() {
-            if write.page == page {
-                into.copy_from_slice(write.bytes.as_slice());
-            }
-        }
-        true
-    }
-
-    // A write waits from now on; false where there is no such page or the bytes are not a page.
-    pub fn write(&mut self, heap: Global, page: usize, bytes: &[u8]) -> Result<bool, AllocError>
-        ensures { Wrote (device_of self.old) page bytes.now result (device_of self.new) }
-    {
-        if page >= self.pages() || bytes.len() != PAGE_LEN {
-            return Ok(false);
-        }
-        let bytes = Vec::from_slice(heap, bytes)?;
-        self.waiting.push(Waiting { page, bytes })?;
-        Ok(true)
-    }
-
-    // Brings all that waits onto the pages.
-    pub fn flush(&mut self)
+    // Brings all that waits onto the pages. Of a flush there are no choices, and it and a stop have each a definition of its own.
+    fn flush(&mut self)
         ensures { device_of self.new ≡ flushed (device_of self.old) }
     {
-        place_all(self.pages.as_mut_slice(), self.waiting.as_slice());
+        for write in &self.waiting {
+            place(&mut self.pages, write, Leaves::All);
+        }
         self.waiting.clear();
     }
 
@@ -161,7 +113,43 @@ impl Device {
     pub fn stop(&mut self, choices: &[Leaves])
         ensures { device_of self.new ≡ stopped (device_of self.old) (each leaves_number choices.now) }
     {
-        place_left(self.pages.as_mut_slice(), self.waiting.as_slice(), choices);
+        for (write, leaves) in self.waiting.iter().zip(choices) {
+            place(&mut self.pages, write, *leaves);
+        }
         self.waiting.clear();
+    }
+}
+
+// What a device gives, takes and keeps is what the model says of one.
+impl Disk for Device {
+    ghost size = { λ d. length (device_of d).pages };
+
+    ghost gave = { λ d k p e. (p ≡ read_page (device_of d) k) × (device_of e ≡ device_of d) };
+
+    ghost took = { λ d k p e. device_of e ≡ queued (device_of d) k p };
+
+    ghost kept = { λ d e. device_of e ≡ flushed (device_of d) };
+
+    fn pages(&self) -> u64 {
+        self.pages.len() as u64
+    }
+
+    fn read_page(&mut self, page: u64, into: &mut Page) -> io::Result<()> {
+        *into = *self.read(page as usize).unwrap();
+        Ok(())
+    }
+
+    // A write waits from now on.
+    fn write_page(&mut self, page: u64, bytes: &Page) -> io::Result<()> {
+        self.waiting.push(Waiting {
+            page: page as usize,
+            bytes: *bytes,
+        })?;
+        Ok(())
+    }
+
+    fn sync(&mut self) -> io::Result<()> {
+        self.flush();
+        Ok(())
     }
 }

@@ -1,158 +1,133 @@
 // A stop at every act: before a command is carried out, it is tried what a stop at each of its acts would leave, for every choice of what
 // comes of the waiting writes.
-ghost use Rattle.std.specs.Prelude.{◌≡◌, OnOk};
-ghost use Rattle.days.specs.Played.{more_by, counted};
+ghost use Rattle.std.specs.Prelude.{◌≡◌, ℕ, List, IfOk};
+ghost use Rattle.model.specs.Device.{stopped as left_by};
+ghost use Rattle.days.specs.Held.{device_of};
 
 use super::device::{Device, Leaves};
 use super::machine::{MOST_ACTS, Ran};
-use super::make::{Item, Saying};
+use super::make::Saying;
 use super::plain::End;
-use super::play::{Allowed, Pair, Trouble, answer, powered};
+use super::play::{Allowed, Pair, Trouble, powered};
 use super::random::Random;
-use std::alloc::{AllocError, Global};
+use std::alloc::AllocError;
+use std::iter::successors;
 
 // Of so many waiting writes, the last ones, all choices are tried; for those before them one is taken by chance.
 const TRIED_WRITES: usize = 4;
 
 // How many choices there are for one write.
-const CHOICES: u64 = 3;
+const CHOICES: u64 = Leaves::EVERY.len() as u64;
 
-fn leaves(number: u64) -> Leaves {
-    match number % CHOICES {
-        0 => Leaves::Nothing,
-        1 => Leaves::All,
-        _ => Leaves::Half,
-    }
+// The choice that has this number.
+fn choice(number: u64) -> Leaves {
+    Leaves::EVERY[(number % CHOICES) as usize]
 }
 
 // How many ways are tried in which so many waiting writes can end.
 fn ways(waiting: usize) -> u64 {
-    let mut ways: u64 = 1;
-    for _ in 0..waiting.min(TRIED_WRITES) {
-        ways = ways.saturating_mul(CHOICES);
-    }
-    ways
+    CHOICES.saturating_pow(waiting.min(TRIED_WRITES) as u32)
 }
 
-// What is left of each waiting write in one of these ways.
-fn way(heap: Global, number: u64, waiting: usize) -> Result<Vec<Leaves>, AllocError> {
-    let mut random = Random::new(number);
-    let mut all = Vec::new(heap);
-    for _ in 0..waiting.saturating_sub(TRIED_WRITES) {
-        all.push(leaves(random.next()))?;
+// Cuts off after 0 acts, 1, 2 and so on, until it came to its end.
+fn until_ended<F: FnMut(u64) -> Result<bool, Trouble>>(mut cut: F) -> Result<(), Trouble>
+    requires { F.IsAlwaysCallable cut }
+{
+    for acts in 0..MOST_ACTS {
+        if cut(acts)? {
+            break;
+        }
     }
-    let mut rest = number;
-    for _ in 0..waiting.min(TRIED_WRITES) {
-        all.push(leaves(rest))?;
-        rest /= CHOICES;
-    }
-    Ok(all)
+    Ok(())
 }
 
-// The pages as a stop leaves them in one of the ways.
-fn stopped(heap: Global, device: &Device, number: u64) -> Result<Device, AllocError> {
-    let mut pages = device.copy(heap)?;
-    let leaves = way(heap, number, device.waiting())?;
-    pages.stop(leaves.as_slice());
-    Ok(pages)
+impl Device {
+    // What is left of each waiting write in one of the ways: of the first ones by chance, of the last ones by the way's number.
+    fn way(&self, number: u64) -> Result<Vec<Leaves>, AllocError> {
+        let waiting = self.waiting();
+        let tried = waiting.min(TRIED_WRITES);
+        let mut random = Random::new(number);
+        let by_chance = (tried..waiting).map(|_| choice(random.next()));
+        let in_turn = successors(Some(number), |rest| Some(rest / CHOICES))
+            .take(tried)
+            .map(choice);
+        by_chance.chain(in_turn).collect(self.heap())
+    }
+
+    // The pages as a stop leaves them in one of the ways.
+    fn stopped(&self, number: u64) -> Result<Device, AllocError>
+        ensures { IfOk result (λ d. (choices : List ℕ) × (device_of d ≡ left_by (device_of self.now) choices)) }
+    {
+        let mut pages = self.clone()?;
+        let leaves = self.way(number)?;
+        pages.stop(leaves.as_slice());
+        Ok(pages)
+    }
 }
 
 impl Pair {
-    fn is_allowed(&mut self, pages: &Device, allowed: &mut Allowed) -> Result<(), Trouble>
-        ensures { self.new.tally.commands ≡ self.old.tally.commands }
-    {
-        self.tally.stops = self.tally.stops.saturating_add(1);
+    // Stopped pages must come up as a house that is allowed; the stop is counted.
+    fn must_come_up(&mut self, pages: &Device, allowed: &Allowed) -> Result<(), Trouble> {
+        self.losses.stop();
         self.comes_up(pages, allowed)?;
         Ok(())
     }
 
     // A power-up that is cut off after so many acts changes nothing, whatever is left of what it wrote. Says whether it came to its end.
-    fn power_cut(
-        &mut self,
-        pages: &Device,
-        acts: u64,
-        allowed: &mut Allowed,
-    ) -> Result<bool, Trouble>
-        ensures { self.new.tally.commands ≡ self.old.tally.commands }
-    {
-        let mut trial = pages.copy(self.heap)?;
+    fn power_cut(&mut self, pages: &Device, acts: u64, allowed: &Allowed) -> Result<bool, Trouble> {
+        let mut trial = pages.clone()?;
         let ran = self.spare.power(self.identity, &mut trial, acts)?;
         powered(&ran)?;
-        self.tally.cut_powers = self.tally.cut_powers.saturating_add(1);
+        self.losses.cut_power();
         for number in 0..ways(trial.waiting()) {
-            let left = stopped(self.heap, &trial, number)?;
-            self.is_allowed(&left, allowed)?;
+            let left = trial.stopped(number)?;
+            self.must_come_up(&left, allowed)?;
         }
         Ok(ran.turn.end == End::Done)
     }
 
     // A power-up on stopped pages, cut off at each of its acts. One that writes nothing leaves the pages as they are.
-    fn every_power(&mut self, pages: &Device, allowed: &mut Allowed) -> Result<(), Trouble>
-        ensures { self.new.tally.commands ≡ self.old.tally.commands }
-    {
-        let mut trial = pages.copy(self.heap)?;
+    fn every_power(&mut self, pages: &Device, allowed: &Allowed) -> Result<(), Trouble> {
+        let mut trial = pages.clone()?;
         let ran = self.spare.power_whole(self.identity, &mut trial)?;
         if ran.acts.writes == 0 {
             return Ok(());
         }
-        for acts in 0..MOST_ACTS {
-            if self.power_cut(pages, acts, allowed)? {
-                break;
-            }
-        }
-        Ok(())
+        until_ended(|acts| self.power_cut(pages, acts, allowed))
     }
 
     // What waits when power is lost is left in every way.
-    fn every_way(&mut self, trial: &Device, allowed: &mut Allowed) -> Result<(), Trouble>
-        ensures { self.new.tally.commands ≡ self.old.tally.commands }
-    {
+    // As in `power_cut`, but each of these is tried by power-ups too: a closure would borrow the pair twice.
+    fn every_way(&mut self, trial: &Device, allowed: &Allowed) -> Result<(), Trouble> {
         for number in 0..ways(trial.waiting()) {
-            let left = stopped(self.heap, trial, number)?;
-            self.is_allowed(&left, allowed)?;
+            let left = trial.stopped(number)?;
+            self.must_come_up(&left, allowed)?;
             self.every_power(&left, allowed)?;
         }
         Ok(())
     }
 
     // A command that is cut off after so many acts. Says whether it came to its end.
-    fn cut(&mut self, saying: &Saying, acts: u64) -> Result<bool, Trouble>
-        ensures { self.new.tally.commands ≡ self.old.tally.commands }
-    {
-        let mut after = self.plain.copy(self.heap)?;
-        let expected = answer(self.heap, &mut after, saying)?;
-        let mut trial = self.device.copy(self.heap)?;
+    fn cut(&mut self, saying: &Saying, acts: u64) -> Result<bool, Trouble> {
+        let due = self.plain.due(saying.command.as_ref())?;
+        let mut trial = self.device.clone()?;
         self.spare.take_memory(&self.machine);
         let Ran { turn, .. } = self.spare.say(saying.text.as_slice(), &mut trial, acts)?;
         let ended = turn.end != End::Cut;
-        let mut allowed = self.allowed(expected, after, turn)?;
-        self.every_way(&trial, &mut allowed)?;
+        let allowed = self.allowed(due, turn)?;
+        self.every_way(&trial, &allowed)?;
         Ok(ended)
     }
 
-    fn every_cut(&mut self, saying: &Saying) -> Result<(), Trouble>
-        ensures { OnOk result (self.new.tally.commands ≡ more_by self.old.tally.commands 1) }
-    {
-        for acts in 0..MOST_ACTS {
-            if self.cut(saying, acts)? {
-                break;
-            }
-        }
+    // A command to its end, after a stop at each of its acts was tried.
+    pub fn every_cut(&mut self, saying: &Saying) -> Result<End, Trouble> {
+        until_ended(|acts| self.cut(saying, acts))?;
         self.whole(saying)
     }
 
-    // An item of a day that is played with a stop at every act: each command, and power where the day has it, after a stop at rest.
-    pub fn item_every_act(&mut self, item: &Item) -> Result<(), Trouble>
-        ensures { OnOk result (self.new.tally.commands ≡ counted item.now self.old.tally.commands) }
-    {
-        match item {
-            Item::Power => {
-                self.device.stop(&[]);
-                self.power()
-            }
-            Item::PowerStops(_) => Ok(()),
-            Item::Whole(saying) => self.every_cut(saying),
-            Item::Stops(saying, _) => self.every_cut(saying),
-        }
+    // Power, after a stop at rest.
+    pub fn power_at_rest(&mut self) -> Result<(), Trouble> {
+        self.device.stop(&[]);
+        self.power()
     }
 }

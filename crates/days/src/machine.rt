@@ -1,69 +1,54 @@
-// The real house at work: the step of the house, its memory, and the acts that it asks for, done on a device one after another.
-ghost use Rattle.std.specs.Prelude.{◌≡◌, vec_len};
+// The real house at work on a device: a host's machine, which does one act after another, until the end or until power goes.
+ghost use Rattle.std.specs.Prelude.{◌≡◌, IfOk};
+ghost use Rattle.house.specs.Machine.{own};
+ghost use Rattle.days.specs.Played.{more_by};
 
-use super::device::{Device, PAGE_LEN};
-use super::plain::{End, Rows, Turn};
-use house::{MEMORY_LEN, OUT_LEN, Told, kind, step};
-use std::alloc::{AllocError, AllocFailed, Global};
-use std::fmt;
+use super::command::{Command, spelled};
+use super::device::Device;
+use super::plain::{End, MOST_PEOPLE, PlainHouse, Rows, Turn};
+use super::shown::Shown;
+use host::{Answer, Refused, World, answer};
+use house::{Identity, Told};
+use std::alloc::{AllocError, Global};
+use std::ops::AddAssign;
+use thiserror::Error;
 
 // No command and no power-up takes so many acts: whatever does has no end.
 pub const MOST_ACTS: u64 = 1 << 20;
 
-// A refusal has a number below this, and not 0.
+// Numbers from here on were never meant as refusals.
 const FIRST_NO_REFUSAL: u64 = 1000;
 
 // What a house must never do.
-#[derive(Drop)]
+#[derive(Debug, Drop, Error)]
 pub enum Fault {
-    // There was no memory to play on; this is no fault of the house.
-    NoMemory,
+    // This is no fault of the house.
+    #[error("there is no memory left to play on")]
+    NoMemory(#[from(alloc)] AllocError),
+    #[error("the house asked for page {0}, which is not there")]
     NoSuchPage(u64),
+    #[error("the house showed a row of {0} bytes")]
     LongRow(u64),
+    #[error("the house refused with {0}, which is no refusal's number")]
     NoRefusal(u64),
+    #[error("the house came to no end")]
     Endless,
 }
 
-impl From<AllocError> for Fault {
-    fn from(_e: AllocError) -> Fault {
-        Fault::NoMemory
-    }
-}
-
-impl<T: Drop> From<AllocFailed<T>> for Fault {
-    fn from(_e: AllocFailed<T>) -> Fault {
-        Fault::NoMemory
-    }
-}
-
-impl fmt::Display for Fault {
-    fn fmt<W: fmt::Write>(&self, f: &mut fmt::Formatter<W>) -> fmt::Result {
-        match self {
-            Fault::NoMemory => write!(f, "there is no memory left to play on"),
-            Fault::NoSuchPage(page) => write!(
-                f,
-                "the house asked for page {page}, which is not there"
-            ),
-            Fault::LongRow(len) => write!(f, "the house showed a row of {len} bytes"),
-            Fault::NoRefusal(number) => write!(
-                f,
-                "the house refused with {number}, which is no refusal's number"
-            ),
-            Fault::Endless => write!(f, "the house came to no end"),
+// Pages and rows are kept in memory here, and nothing else can fail in them.
+impl From<host::Fault> for Fault {
+    fn from(fault: host::Fault) -> Fault {
+        match fault {
+            host::Fault::Io(_) => Fault::NoMemory(AllocError),
+            host::Fault::NoSuchPage(page) => Fault::NoSuchPage(page),
+            host::Fault::LongRow(len) => Fault::LongRow(len),
+            host::Fault::Endless => Fault::Endless,
         }
     }
 }
 
-// Which house it is, of how many, and how many pages it has.
-#[derive(Clone, Copy)]
-pub struct Identity {
-    pub house: u64,
-    pub houses: u64,
-    pub pages: u64,
-}
-
 // How many acts of each sort were done.
-#[derive(Clone, Copy)]
+#[derive(Clone, Copy, Default)]
 pub struct Acts {
     pub reads: u64,
     pub writes: u64,
@@ -72,25 +57,22 @@ pub struct Acts {
 }
 
 impl Acts {
-    pub(super) fn none() -> Acts {
-        Acts {
-            reads: 0,
-            writes: 0,
-            flushes: 0,
-            others: 0,
-        }
-    }
-
+    // One act more.
     fn count(&mut self, told: Told) {
-        match told {
-            Told::Read(_) => self.reads = self.reads.saturating_add(1),
-            Told::Write(_) => self.writes = self.writes.saturating_add(1),
-            Told::Flush => self.flushes = self.flushes.saturating_add(1),
-            _ => self.others = self.others.saturating_add(1),
-        }
+        let count = match told {
+            Told::Read(_) => &mut self.reads,
+            Told::Write(_) => &mut self.writes,
+            Told::Flush => &mut self.flushes,
+            _ => &mut self.others,
+        };
+        *count = count.saturating_add(1);
     }
+}
 
-    pub(super) fn add(&mut self, other: Acts) {
+impl AddAssign for Acts {
+    ghost add_assign_gives = { λ a b r. (r.reads ≡ more_by a.reads b.reads) × (r.writes ≡ more_by a.writes b.writes) × (r.flushes ≡ more_by a.flushes b.flushes) × (r.others ≡ more_by a.others b.others) };
+
+    fn add_assign(&mut self, other: Acts) {
         self.reads = self.reads.saturating_add(other.reads);
         self.writes = self.writes.saturating_add(other.writes);
         self.flushes = self.flushes.saturating_add(other.flushes);
@@ -105,115 +87,70 @@ pub struct Ran {
     pub acts: Acts,
 }
 
+impl Ran {
+    // It must have come to its end.
+    fn whole(self) -> Result<Ran, Fault> {
+        if self.turn.end == End::Cut {
+            return Err(Fault::Endless);
+        }
+        Ok(self)
+    }
+}
+
+// The end of a command with this answer.
+fn end_of(answer: Answer) -> Result<End, Fault> {
+    match answer {
+        Ok(()) => Ok(End::Done),
+        Err(Refused(number)) if (1..FIRST_NO_REFUSAL).contains(&number) => Ok(End::Refused(number)),
+        Err(Refused(number)) => Err(Fault::NoRefusal(number)),
+    }
+}
+
+// A house, and the heap for what it shows.
 #[derive(Drop)]
 pub struct Machine {
     heap: Global,
-    memory: Vec<u64>,
-    row: Vec<u8>,
-    page: Vec<u8>,
-    ghost sized: { (vec_len memory ≡ 262144) × (vec_len row ≡ 131072) × (vec_len page ≡ 512) },
+    house: host::Machine,
 }
 
 impl Machine {
     // A house without power.
-    pub fn new(heap: Global) -> Result<Machine, AllocError> {
-        let memory = vec![in heap; 0; MEMORY_LEN]?;
-        let row = vec![in heap; 0; OUT_LEN]?;
-        let page = vec![in heap; 0; PAGE_LEN]?;
+    pub fn new(heap: Global) -> Result<Machine, AllocError>
+        ensures { IfOk result (λ m. m.house.memory.items ≡ own.start) }
+    {
         Ok(Machine {
             heap,
-            memory,
-            row,
-            page,
+            house: host::Machine::new(heap)?,
         })
     }
 
     // Takes over the memory of another.
-    pub fn take_memory(&mut self, other: &Machine) {
-        self.memory
-            .as_mut_slice()
-            .copy_from_slice(other.memory.as_slice());
-    }
-
-    fn tell(&mut self, kind: u64, bytes: &[u8]) -> Told {
-        step(
-            self.memory.as_mut_slice(),
-            kind,
-            bytes,
-            self.row.as_mut_slice(),
-        )
-    }
-
-    fn read(&mut self, page: u64, device: &Device) -> Result<Told, Fault> {
-        let Ok(place) = usize::try_from(page) else {
-            return Err(Fault::NoSuchPage(page));
-        };
-        if !device.read(place, self.page.as_mut_slice()) {
-            return Err(Fault::NoSuchPage(page));
-        }
-        Ok(step(
-            self.memory.as_mut_slice(),
-            kind::PAGE,
-            self.page.as_slice(),
-            self.row.as_mut_slice(),
-        ))
-    }
-
-    fn write(&mut self, page: u64, device: &mut Device) -> Result<Told, Fault> {
-        let Ok(place) = usize::try_from(page) else {
-            return Err(Fault::NoSuchPage(page));
-        };
-        if !device.write(self.heap, place, &self.row[0..PAGE_LEN])? {
-            return Err(Fault::NoSuchPage(page));
-        }
-        Ok(self.tell(kind::NEXT, &[]))
-    }
-
-    fn show(&mut self, len: u64, rows: &mut Rows) -> Result<Told, Fault> {
-        if len > OUT_LEN as u64 {
-            return Err(Fault::LongRow(len));
-        }
-        rows.push(Vec::from_slice(self.heap, &self.row[0..len as usize])?)?;
-        Ok(self.tell(kind::NEXT, &[]))
-    }
-
-    // Does one act, and tells the house what came of it. There is no line to other houses.
-    fn act(&mut self, told: Told, device: &mut Device, rows: &mut Rows) -> Result<Told, Fault> {
-        match told {
-            Told::Read(page) => self.read(page, device),
-            Told::Write(page) => self.write(page, device),
-            Told::Flush => {
-                device.flush();
-                Ok(self.tell(kind::NEXT, &[]))
-            }
-            Told::Shows(len) => self.show(len, rows),
-            Told::Send(_) => Ok(self.tell(kind::LOST, &[])),
-            Told::Done | Told::No(_) => Ok(told),
-        }
+    pub fn take_memory(&mut self, other: &Machine)
+        ensures { self.new.house.memory.items ≡ other.now.house.memory.items }
+    {
+        self.house.take_memory(&other.house);
     }
 
     // Goes on from an act to the end, or until so many acts are done.
     fn run(&mut self, first: Told, device: &mut Device, limit: u64) -> Result<Ran, Fault> {
+        let mut world = World {
+            disk: &mut *device,
+            rows: Shown(Vec::new(self.heap)),
+        };
         let mut told = first;
-        let mut acts = Acts::none();
-        let mut rows = Vec::new(self.heap);
+        let mut acts = Acts::default();
         let mut end = End::Cut;
         for _ in 0..limit {
             acts.count(told);
-            match told {
-                Told::Done => {
-                    end = End::Done;
-                    break;
-                }
-                Told::No(number) => {
-                    end = refused(number)?;
-                    break;
-                }
-                _ => told = self.act(told, device, &mut rows)?,
+            if let Some(answer) = answer(told) {
+                end = end_of(answer)?;
+                break;
             }
+            told = self.house.act(told, &mut world)?;
         }
+        let World { rows, .. } = world;
         Ok(Ran {
-            turn: Turn { rows, end },
+            turn: Turn { rows: rows.0, end },
             acts,
         })
     }
@@ -225,42 +162,36 @@ impl Machine {
         device: &mut Device,
         limit: u64,
     ) -> Result<Ran, Fault> {
-        self.memory.as_mut_slice().fill(0);
-        let mut numbers = [0u8; 24];
-        numbers[0..8].copy_from_slice(&identity.house.to_be_bytes());
-        numbers[8..16].copy_from_slice(&identity.houses.to_be_bytes());
-        numbers[16..24].copy_from_slice(&identity.pages.to_be_bytes());
-        let first = self.tell(kind::POWER, &numbers);
+        let first = self.house.wake(identity);
         self.run(first, device, limit)
     }
 
     // A command is said, and power goes after so many acts of it.
     pub fn say(&mut self, text: &[u8], device: &mut Device, limit: u64) -> Result<Ran, Fault> {
-        let first = self.tell(kind::SAID, text);
+        let first = self.house.say(text);
         self.run(first, device, limit)
     }
 
     // A power-up to its end.
     pub fn power_whole(&mut self, identity: Identity, device: &mut Device) -> Result<Ran, Fault> {
-        ended(self.power(identity, device, MOST_ACTS)?)
+        self.power(identity, device, MOST_ACTS)?.whole()
     }
 
     // A command to its end.
     pub fn say_whole(&mut self, text: &[u8], device: &mut Device) -> Result<Ran, Fault> {
-        ended(self.say(text, device, MOST_ACTS)?)
+        self.say(text, device, MOST_ACTS)?.whole()
     }
-}
 
-fn refused(number: u64) -> Result<End, Fault> {
-    if number == 0 || number >= FIRST_NO_REFUSAL {
-        return Err(Fault::NoRefusal(number));
+    // Whether a house with power is as the plain one: all that can be asked is asked.
+    pub fn is_as(&mut self, device: &mut Device, plain: &PlainHouse) -> Result<bool, Fault> {
+        for person in 0..MOST_PEOPLE as u64 {
+            let text = spelled(self.heap, &Command::Boxes { person })?;
+            let expected = plain.boxes(person)?;
+            let ran = self.say_whole(text.as_slice(), device)?;
+            if ran.turn != expected {
+                return Ok(false);
+            }
+        }
+        Ok(true)
     }
-    Ok(End::Refused(number))
-}
-
-fn ended(ran: Ran) -> Result<Ran, Fault> {
-    if ran.turn.end == End::Cut {
-        return Err(Fault::Endless);
-    }
-    Ok(ran)
 }

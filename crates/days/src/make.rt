@@ -1,15 +1,18 @@
 // Makes days by chance: what is said, when power comes, and when it goes.
-ghost use Rattle.std.specs.Prelude.{◌≡◌, ◌+◌, IfOk, OnOk};
+ghost use Rattle.std.specs.Prelude.{◌≡◌, ◌<◌, length, Contains, IfOk, OnOk};
 ghost use Rattle.days.specs.Played.{Fitting, all_said};
 
-use super::command::{Command, Kind, Speller};
+use super::command::{Command, Kind, Speller, spelled};
 use super::device::Leaves;
-use super::machine::{Identity, MOST_ACTS};
+use super::hex::Hex;
+use super::machine::MOST_ACTS;
 use super::plain::MOST_PEOPLE;
 use super::random::Random;
+use house::Identity;
 use std::alloc::{AllocError, Global};
 use std::fmt;
 
+// Days have bounds of their own, as docs/COMMANDS.md has them: what they are played on must not tell them these.
 const MOST_HOUSES: u64 = 16;
 
 const LONGEST_NAME: u64 = 64;
@@ -30,25 +33,32 @@ pub struct Saying {
     pub text: Vec<u8>,
 }
 
-// Power goes after so many acts; of each waiting write so much is left.
+// Power goes after so many acts, or after the end if none are said; of each waiting write so much is left.
 #[derive(Drop)]
 pub struct Stop {
-    pub acts: u64,
+    pub acts: Option<u64>,
     pub leaves: Vec<Leaves>,
 }
 
+// Power comes, or something is said; where there is a stop, it is cut off.
 #[derive(Drop)]
 pub enum Item {
-    Power,
-    PowerStops(Stop),
-    Whole(Saying),
-    Stops(Saying, Stop),
+    Power(Option<Stop>),
+    Said(Saying, Option<Stop>),
 }
 
+// A house, and what happens to it one after another.
 #[derive(Drop)]
 pub struct Day {
     pub identity: Identity,
     pub items: Vec<Item>,
+}
+
+impl Stop {
+    // At most so many acts are done before power goes.
+    pub(super) fn limit(&self) -> u64 {
+        self.acts.unwrap_or(MOST_ACTS)
+    }
 }
 
 impl fmt::Display for Leaves {
@@ -63,29 +73,21 @@ impl fmt::Display for Leaves {
 
 impl fmt::Display for Saying {
     fn fmt<W: fmt::Write>(&self, f: &mut fmt::Formatter<W>) -> fmt::Result {
+        let text = Hex(self.text.as_slice());
         match &self.command {
-            Some(command) => {
-                let kind = command.kind();
-                write!(f, "{kind}: ")?;
-            }
-            None => write!(f, "no command: ")?,
+            Some(command) => write!(f, "{}: {text}", command.kind()),
+            None => write!(f, "no command: {text}"),
         }
-        for byte in self.text.as_slice() {
-            write!(f, "{byte:02x}")?;
-        }
-        Ok(())
     }
 }
 
 impl fmt::Display for Stop {
     fn fmt<W: fmt::Write>(&self, f: &mut fmt::Formatter<W>) -> fmt::Result {
-        if self.acts >= MOST_ACTS {
-            write!(f, "; power goes after the end, leaving")?;
-        } else {
-            let acts = self.acts;
-            write!(f, "; power goes after {acts} acts, leaving")?;
+        match self.acts {
+            Some(acts) => write!(f, "; power goes after {acts} acts, leaving")?,
+            None => write!(f, "; power goes after the end, leaving")?,
         }
-        for leaves in self.leaves.as_slice() {
+        for leaves in &self.leaves {
             write!(f, " {leaves}")?;
         }
         Ok(())
@@ -94,11 +96,19 @@ impl fmt::Display for Stop {
 
 impl fmt::Display for Item {
     fn fmt<W: fmt::Write>(&self, f: &mut fmt::Formatter<W>) -> fmt::Result {
-        match self {
-            Item::Power => write!(f, "power"),
-            Item::PowerStops(stop) => write!(f, "power{stop}"),
-            Item::Whole(saying) => write!(f, "{saying}"),
-            Item::Stops(saying, stop) => write!(f, "{saying}{stop}"),
+        let stop = match self {
+            Item::Power(stop) => {
+                write!(f, "power")?;
+                stop
+            }
+            Item::Said(saying, stop) => {
+                write!(f, "{saying}")?;
+                stop
+            }
+        };
+        match stop {
+            Some(stop) => write!(f, "{stop}"),
+            None => Ok(()),
         }
     }
 }
@@ -111,6 +121,7 @@ enum Mood {
     Boxing,
 }
 
+// What a day is made with.
 #[derive(Drop)]
 struct Maker {
     heap: Global,
@@ -129,14 +140,42 @@ enum Spoilt {
     Argument,
 }
 
+const SPOILT: [Spoilt; 4] = [
+    Spoilt::Shorter,
+    Spoilt::Longer,
+    Spoilt::Kind,
+    Spoilt::Argument,
+];
+
+// The kinds of commands that are said seldom.
+const OTHER_KINDS: [Kind; 10] = [
+    Kind::HandIn,
+    Kind::DropBox,
+    Kind::List,
+    Kind::Get,
+    Kind::SetMark,
+    Kind::ToBox,
+    Kind::Clear,
+    Kind::Rules,
+    Kind::Find,
+    Kind::Push,
+];
+
+impl Random {
+    // One of some things.
+    fn one_of<T: Copy>(&mut self, all: &[T]) -> T
+        requires { 0 < length all.now }
+        ensures { Contains all.now result }
+    {
+        all[self.below(all.len() as u64) as usize]
+    }
+}
+
 impl Maker {
+    // For the day of a number, with so many commands.
     fn new(heap: Global, number: u64, length: u64) -> Maker {
         let mut random = Random::new(number);
-        let mood = match random.below(4) {
-            0 => Mood::Joining,
-            1 => Mood::Boxing,
-            _ => Mood::Mixed,
-        };
+        let mood = random.one_of(&[Mood::Joining, Mood::Boxing, Mood::Mixed, Mood::Mixed]);
         Maker {
             heap,
             random,
@@ -145,17 +184,13 @@ impl Maker {
         }
     }
 
+    // Which house it is, and on how many pages.
     fn identity(&mut self, pages: Option<u64>) -> Identity
         ensures { Fitting pages result }
     {
         let houses = self.random.below(MOST_HOUSES).saturating_add(1);
         let house = self.random.below(houses);
-        let chosen = match self.random.below(4) {
-            0 => SIZES[0],
-            1 => SIZES[1],
-            2 => SIZES[2],
-            _ => SIZES[3],
-        };
+        let chosen = self.random.one_of(&SIZES);
         Identity {
             house,
             houses,
@@ -174,26 +209,25 @@ impl Maker {
         }
     }
 
+    // A name with a number.
     fn numbered_name(&mut self) -> Result<Vec<u8>, AllocError> {
         let number = self.random.below(self.names);
-        let text = format!(in self.heap; "x{number}")?;
-        Vec::from_slice(self.heap, text.as_bytes())
+        Ok(format!(in self.heap; "x{number}")?.into_bytes())
     }
 
+    // A name of any length, of one byte again and again.
     fn long_name(&mut self) -> Result<Vec<u8>, AllocError> {
         let len = self.random.below(LONGEST_NAME).saturating_add(1);
         let byte = self.random.byte();
         self.repeated(byte, len)
     }
 
+    // A byte so many times.
     fn repeated(&mut self, byte: u8, len: u64) -> Result<Vec<u8>, AllocError> {
-        let mut bytes = Vec::new(self.heap);
-        for _ in 0..len {
-            bytes.push(byte)?;
-        }
-        Ok(bytes)
+        vec![in self.heap; byte; len as usize]
     }
 
+    // Somebody, mostly one of the first.
     fn person(&mut self) -> u64 {
         match self.random.below(16) {
             0 => self.random.below(MOST_PEOPLE as u64),
@@ -202,25 +236,11 @@ impl Maker {
         }
     }
 
-    fn other_kind(&mut self) -> Kind {
-        match self.random.below(10) {
-            0 => Kind::HandIn,
-            1 => Kind::DropBox,
-            2 => Kind::List,
-            3 => Kind::Get,
-            4 => Kind::SetMark,
-            5 => Kind::ToBox,
-            6 => Kind::Clear,
-            7 => Kind::Rules,
-            8 => Kind::Find,
-            _ => Kind::Push,
-        }
-    }
-
+    // The kind of a command, by the mood of the day.
     fn kind(&mut self) -> Kind {
         let roll = self.random.below(16);
         match roll {
-            0 | 1 => self.other_kind(),
+            0 | 1 => self.random.one_of(&OTHER_KINDS),
             2 | 3 => Kind::Boxes,
             4 | 5 => Kind::Join,
             6 | 7 => Kind::NewBox,
@@ -242,13 +262,14 @@ impl Maker {
         Ok(rules.finish())
     }
 
+    // A letter of any length, of one byte again and again.
     fn letter(&mut self) -> Result<Vec<u8>, AllocError> {
         let len = self.random.below(1200);
         let byte = self.random.byte();
         self.repeated(byte, len)
     }
 
-    // A command of one person alone.
+    // A command of one person alone. Person and name are drawn for each of these kinds, so that a number goes on making the same day.
     fn personal(&mut self, kind: Kind) -> Result<Command, AllocError> {
         let person = self.person();
         let name = self.name()?;
@@ -272,7 +293,7 @@ impl Maker {
         }
     }
 
-    // A command on the letters of a box.
+    // A command on the letters of a box. What all have is drawn for each of these kinds, so that a number goes on making the same day.
     fn of_letters(&mut self, kind: Kind) -> Result<Command, AllocError> {
         let person = self.person();
         let mailbox = self.name()?;
@@ -307,6 +328,7 @@ impl Maker {
         }
     }
 
+    // A command that is spelled well.
     fn command(&mut self) -> Result<Command, AllocError> {
         let kind = self.kind();
         match kind {
@@ -345,36 +367,31 @@ impl Maker {
         }
     }
 
-    fn spoilt(&mut self) -> Spoilt {
-        match self.random.below(4) {
-            0 => Spoilt::Shorter,
-            1 => Spoilt::Longer,
-            2 => Spoilt::Kind,
-            _ => Spoilt::Argument,
-        }
-    }
-
     // A text that is no command. Every command says how long it is, so that no other begins with it.
     fn misspelled(&mut self) -> Result<Vec<u8>, AllocError> {
-        let command = self.command()?;
-        let mut text = command.spelled(self.heap)?;
-        match self.spoilt() {
+        let mut text = spelled(self.heap, &self.command()?)?;
+        match self.random.one_of(&SPOILT) {
             Spoilt::Shorter => {
                 let len = self.random.below(text.len() as u64);
                 text.truncate(usize::try_from(len).unwrap_or(0));
             }
             Spoilt::Longer => text.push(self.random.byte())?,
             Spoilt::Kind => {
-                let kind = self.random.byte();
-                if let Some(first) = text.get_mut(0) {
-                    *first = if (1..=13).contains(&kind) { 0 } else { kind };
+                let byte = self.random.byte();
+                if let Some(first) = text.first_mut() {
+                    *first = if Kind::try_from(byte).is_ok() {
+                        0
+                    } else {
+                        byte
+                    };
                 }
             }
-            Spoilt::Argument => return self.impossible()?.spelled(self.heap),
+            Spoilt::Argument => return spelled(self.heap, &self.impossible()?),
         }
         Ok(text)
     }
 
+    // What is said: a command mostly, and now and then none.
     fn saying(&mut self) -> Result<Saying, AllocError> {
         if self.random.once_in(10) {
             return Ok(Saying {
@@ -383,81 +400,60 @@ impl Maker {
             });
         }
         let command = self.command()?;
-        let text = command.spelled(self.heap)?;
+        let text = spelled(self.heap, &command)?;
         Ok(Saying {
             command: Some(command),
             text,
         })
     }
 
-    fn leaves(&mut self) -> Leaves {
-        match self.random.below(3) {
-            0 => Leaves::Nothing,
-            1 => Leaves::All,
-            _ => Leaves::Half,
-        }
-    }
-
     // After few acts or many, or at rest after the end.
-    fn acts(&mut self) -> u64 {
-        match self.random.below(8) {
-            0 => MOST_ACTS,
-            1 => self.random.below(4),
-            2 => self.random.below(200),
-            3 | 4 => self.random.below(60),
-            _ => self.random.below(16),
-        }
+    fn acts(&mut self) -> Option<u64> {
+        let limit = match self.random.below(8) {
+            0 => return None,
+            1 => 4,
+            2 => 200,
+            3 | 4 => 60,
+            _ => 16,
+        };
+        Some(self.random.below(limit))
     }
 
+    // A stop, and what it leaves.
     fn stop(&mut self) -> Result<Stop, AllocError> {
         let acts = self.acts();
-        let mut leaves = Vec::new(self.heap);
-        for _ in 0..TOLD_WRITES {
-            leaves.push(self.leaves())?;
-        }
+        let random = &mut self.random;
+        let leaves = (0..TOLD_WRITES)
+            .map(|_| random.one_of(&Leaves::EVERY))
+            .collect(self.heap)?;
         Ok(Stop { acts, leaves })
     }
 
-    // Now and then a power-up that is cut off.
-    fn cut_power(&mut self, items: &mut Vec<Item>) -> Result<(), AllocError>
-        ensures { OnOk result (all_said items.new.items ≡ all_said items.old.items) }
-    {
+    // Now and then power goes.
+    fn stop_or_not(&mut self) -> Result<Option<Stop>, AllocError> {
         if !self.random.once_in(4) {
-            return Ok(());
+            return Ok(None);
         }
-        items.push(Item::PowerStops(self.stop()?))?;
-        Ok(())
+        Ok(Some(self.stop()?))
     }
 
-    // Power, unless it is there.
-    fn power(&mut self, up: bool, items: &mut Vec<Item>) -> Result<(), AllocError>
+    // Power, now and then after power-ups that are cut off.
+    #[tactic(auto, using(crate::proofs::Said::said_push))]
+    fn power(&mut self, items: &mut Vec<Item>) -> Result<(), AllocError>
         ensures { OnOk result (all_said items.new.items ≡ all_said items.old.items) }
     {
-        if up {
-            return Ok(());
-        }
         for _ in 0..MOST_CUT_POWERS {
-            self.cut_power(items)?;
+            if let Some(stop) = self.stop_or_not()? {
+                items.push(Item::Power(Some(stop)))?;
+            }
         }
-        items.push(Item::Power)?;
+        items.push(Item::Power(None))?;
         Ok(())
-    }
-
-    // A command, to its end or not. Says whether there is power afterwards.
-    fn said(&mut self, items: &mut Vec<Item>) -> Result<bool, AllocError>
-        ensures { OnOk result (all_said items.new.items ≡ all_said items.old.items + 1) }
-    {
-        let saying = self.saying()?;
-        if self.random.once_in(4) {
-            items.push(Item::Stops(saying, self.stop()?))?;
-            return Ok(false);
-        }
-        items.push(Item::Whole(saying))?;
-        Ok(true)
     }
 }
 
 // The day of a number, with so many commands, on so many pages or on as many as the number says.
+#[tactic(auto, using(crate::proofs::Said::said_none, crate::proofs::Said::said_push))]
 pub fn make_day(
     heap: Global,
     number: u64,
@@ -471,8 +467,13 @@ pub fn make_day(
     let mut items = Vec::new(heap);
     let mut up = false;
     for _ in 0..length {
-        maker.power(up, &mut items)?;
-        up = maker.said(&mut items)?;
+        if !up {
+            maker.power(&mut items)?;
+        }
+        let saying = maker.saying()?;
+        let stop = maker.stop_or_not()?;
+        up = stop.is_none();
+        items.push(Item::Said(saying, stop))?;
     }
     Ok(Day { identity, items })
 }

@@ -8,6 +8,7 @@ const FIRST_MIX: u64 = 0xbf58_476d_1ce4_e5b9;
 
 const SECOND_MIX: u64 = 0x94d0_49bb_1331_11eb;
 
+// Where the numbers are.
 #[derive(Clone, Copy)]
 pub struct Random {
     state: u64,
@@ -23,12 +24,14 @@ fn mix(state: u64) -> u64
 }
 
 impl Random {
+    // The numbers of a seed.
     pub fn new(seed: u64) -> Random
         ensures { result.state ≡ seed }
     {
         Random { state: seed }
     }
 
+    // Any number.
     pub fn next(&mut self) -> u64
         ensures value { result ≡ drawn self.old.state }
         ensures after { self.new.state ≡ stepped self.old.state }
@@ -55,6 +58,7 @@ impl Random {
         self.below(times) == 0
     }
 
+    // Any byte.
     pub fn byte(&mut self) -> u8
         ensures value { result ≡ drawn self.old.state % 256 }
         ensures after { self.new.state ≡ stepped self.old.state }

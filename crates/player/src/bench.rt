@@ -1,5 +1,4 @@
 // Measures what commands and power-ups cost, and prints a table.
-use anyhow::anyhow;
 use days::{Cost, Fault, Kind, Measured};
 use std::time::Instant;
 
@@ -9,13 +8,10 @@ const MICROS: u64 = 1_000_000;
 
 // A fault is told, and ends the measuring.
 fn told<T: Drop>(rt: &HostRuntime, res: Result<T, Fault>) -> anyhow::Result<T> {
-    match res {
-        Ok(value) => Ok(value),
-        Err(fault) => {
-            eprintln!(rt; "player: {fault}")?;
-            Err(anyhow!("the house stopped"))
-        }
+    if let Err(fault) = &res {
+        eprintln!(rt; "player: {fault}")?;
     }
+    Ok(res?)
 }
 
 // Tenths of acts for each command.
@@ -31,6 +27,7 @@ fn line(
     cost: &Cost,
     start: Instant,
 ) -> anyhow::Result<()> {
+    // A time of more microseconds than there are numbers counts as a second.
     let micros = u64::try_from(start.elapsed(rt)?.as_micros())
         .unwrap_or(MICROS)
         .max(1);
@@ -49,28 +46,32 @@ fn line(
     Ok(())
 }
 
-fn power(rt: &HostRuntime, pages: u64, house: &mut Measured) -> anyhow::Result<()> {
+// Does what is measured, and prints its line.
+fn measured<F: FnOnce() -> Result<Cost, Fault>>(
+    rt: &HostRuntime,
+    pages: u64,
+    what: &str,
+    run: F,
+) -> anyhow::Result<()>
+    requires { F.IsAlwaysCallable run }
+{
     let start = Instant::now(rt)?;
-    let cost = told(rt, house.power())?;
-    line(rt, pages, "power", &cost, start)
+    let cost = told(rt, run())?;
+    line(rt, pages, what, &cost, start)
 }
 
-fn series(rt: &HostRuntime, pages: u64, house: &mut Measured, kind: Kind) -> anyhow::Result<()> {
-    let start = Instant::now(rt)?;
-    let cost = told(rt, house.series(kind))?;
-    let what = format!(in rt.alloc(); "{kind}")?;
-    line(rt, pages, what.as_str(), &cost, start)
-}
-
+// A house of one size: a power-up, commands of three kinds, and a power-up after them.
 fn size(rt: &HostRuntime, pages: u64) -> anyhow::Result<()> {
     let mut house = told(rt, Measured::new(rt.alloc(), pages))?;
-    power(rt, pages, &mut house)?;
+    measured(rt, pages, "power", || house.power())?;
     for kind in [Kind::Join, Kind::NewBox, Kind::Boxes] {
-        series(rt, pages, &mut house, kind)?;
+        let what = format!(in rt.alloc(); "{kind}")?;
+        measured(rt, pages, what.as_str(), || house.series(kind))?;
     }
-    power(rt, pages, &mut house)
+    measured(rt, pages, "power", || house.power())
 }
 
+// The table, a house of each size after another.
 pub fn print(rt: &HostRuntime) -> anyhow::Result<()> {
     println!(rt; "   pages  what      count  done     reads    writes   flushes   a second")?;
     for pages in SIZES {

@@ -6,8 +6,9 @@ mod bench;
 mod options;
 
 use anyhow::anyhow;
-use days::{Day, Difference, Outcome, Tally, make_day, play_day};
+use days::{Day, DayError, Difference, Identity, Tally, make_day, play_day};
 use options::{Options, Wish};
+use std::alloc::AllocError;
 use std::env;
 use std::process::ExitCode;
 
@@ -34,14 +35,13 @@ const PROGRESS: u64 = 100;
 
 // Prints a day up to the item that came out otherwise.
 fn tell_day(rt: &HostRuntime, day: &Day, last: usize) -> anyhow::Result<()> {
-    for (place, item) in day.items.as_slice().iter().enumerate() {
-        if place <= last {
-            println!(rt; "  {place}: {item}")?;
-        }
+    for (place, item) in day.items.iter().enumerate().take(last.saturating_add(1)) {
+        println!(rt; "  {place}: {item}")?;
     }
     Ok(())
 }
 
+// Prints where a day differs, the day so far, and the words that play it again.
 fn tell_difference(
     rt: &HostRuntime,
     options: &Options,
@@ -50,8 +50,11 @@ fn tell_difference(
     item: usize,
     difference: &Difference,
 ) -> anyhow::Result<()> {
-    let identity = day.identity;
-    let (house, houses, pages) = (identity.house, identity.houses, identity.pages);
+    let Identity {
+        house,
+        houses,
+        pages,
+    } = day.identity;
     println!(rt; "day {number} differs at item {item}: {difference}")?;
     println!(rt; "the house is {house} of {houses} and has {pages} pages; the day so far:")?;
     tell_day(rt, day, item)?;
@@ -70,14 +73,14 @@ fn one_day(
 ) -> anyhow::Result<()> {
     let heap = rt.alloc();
     let day = make_day(heap, number, options.length, options.pages)?;
-    match play_day(heap, &day, options.manner)? {
-        Outcome::Agrees(tally) => {
+    match play_day(heap, &day, options.manner) {
+        Ok(tally) => {
             let pages = day.identity.pages;
             println!(rt; "day {number}, {pages} pages: {tally}")?;
-            sum.add(&tally);
+            *sum += &tally;
             Ok(())
         }
-        Outcome::Differs { item, difference } => tell_difference(
+        Err(DayError::Differs { item, difference }) => tell_difference(
             rt,
             options,
             number,
@@ -85,11 +88,13 @@ fn one_day(
             item,
             &difference,
         ),
+        Err(DayError::NoMemory) => Err(AllocError.into()),
     }
 }
 
+// Plays the days one after another, and says what happened in all.
 fn play_days(rt: &HostRuntime, options: &Options) -> anyhow::Result<()> {
-    let mut sum = Tally::new();
+    let mut sum = Tally::default();
     for passed in 0..options.days {
         one_day(rt, options, options.first.wrapping_add(passed), &mut sum)?;
         if passed % PROGRESS == PROGRESS - 1 {
@@ -100,18 +105,16 @@ fn play_days(rt: &HostRuntime, options: &Options) -> anyhow::Result<()> {
     Ok(())
 }
 
+// Does what the command line asks for.
 fn start(rt: &HostRuntime) -> anyhow::Result<()> {
     match options::read(env::args(rt)?) {
-        Wish::Help => {
-            rt.println(HELP)?;
-            Ok(())
+        Ok(Wish::Help) => Ok(rt.println(HELP)?),
+        Ok(Wish::Play(options)) => play_days(rt, &options),
+        Ok(Wish::Bench) => bench::print(rt),
+        Err(wrong) => {
+            eprintln!(rt; "player: {wrong}")?;
+            Err(wrong.into())
         }
-        Wish::Bad(message) => {
-            eprintln!(rt; "player: {message}")?;
-            Err(anyhow!("nothing was done"))
-        }
-        Wish::Play(options) => play_days(rt, &options),
-        Wish::Bench => bench::print(rt),
     }
 }
 

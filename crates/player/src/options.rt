@@ -1,11 +1,10 @@
 // What is asked for on the command line.
 use days::Manner;
+use pages::places::Geometry;
 use std::env::Args;
+use thiserror::Error;
 
-const FIRST_PAGES: u64 = 256;
-
-const MOST_PAGES: u64 = 1_048_576;
-
+// Which days are played, and how.
 #[derive(Clone, Copy)]
 pub struct Options {
     pub manner: Manner,
@@ -16,7 +15,7 @@ pub struct Options {
 }
 
 impl Options {
-    // The word that asks for the manner of playing.
+    // The word that asks for the manner of playing. Here and not a Display of days, which does not know how it is asked for.
     pub fn mode(&self) -> &'static str {
         match self.manner {
             Manner::AsMade => "days",
@@ -25,80 +24,72 @@ impl Options {
     }
 }
 
-#[derive(Drop)]
+// What the program is to do.
+#[derive(Clone, Copy)]
 pub enum Wish {
     Help,
     Play(Options),
     Bench,
-    // What is wrong with the words.
-    Bad(&'static str),
 }
 
-const NO_MODE: &str = "'days', 'every-act' or 'bench' comes first; --help says more";
-
-const FEW_WORDS: &str = "FIRST, COUNT and LENGTH are needed, as numbers; --help says more";
-
-const BAD_PAGES: &str = "PAGES is a number from 256 to 1048576";
-
-const MANY_WORDS: &str = "there is a word too many; --help says more";
-
-fn number(word: Option<String>) -> Option<u64> {
-    match word {
-        Some(text) => text.as_str().parse::<u64>().ok(),
-        None => None,
-    }
+// What is wrong with the words.
+#[derive(Debug, Drop, Error)]
+pub enum UsageError {
+    #[error("'days', 'every-act' or 'bench' comes first; --help says more")]
+    NoMode,
+    #[error("FIRST, COUNT and LENGTH are needed, as numbers; --help says more")]
+    FewWords,
+    #[error("PAGES is a number from 256 to 1048576")]
+    BadPages,
+    #[error("there is a word too many; --help says more")]
+    ManyWords,
 }
 
-fn pages(word: Option<String>) -> Result<Option<u64>, &'static str> {
-    if word.is_none() {
+// The number that a word is.
+// The two programs read their words each for itself; a crate for two short functions would be longer.
+fn number(word: String) -> Option<u64> {
+    word.as_str().parse().ok()
+}
+
+// As many pages as a house can have, if they are said.
+fn pages(word: Option<String>) -> Result<Option<u64>, UsageError> {
+    let Some(word) = word else {
         return Ok(None);
-    }
-    match number(word) {
-        Some(n) => {
-            if n < FIRST_PAGES || n > MOST_PAGES {
-                return Err(BAD_PAGES);
-            }
-            Ok(Some(n))
-        }
-        None => Err(BAD_PAGES),
-    }
+    };
+    number(word)
+        .filter(|n| Geometry::of(*n).is_some())
+        .map(Some)
+        .ok_or(UsageError::BadPages)
 }
 
 // The words after the mode.
-fn played(manner: Manner, args: Args) -> Wish {
-    let mut words = args;
-    let first = number(words.next());
-    let days = number(words.next());
-    let length = number(words.next());
+fn played(manner: Manner, mut words: Args) -> Result<Wish, UsageError> {
+    let first = words.next().and_then(number);
+    let days = words.next().and_then(number);
+    let length = words.next().and_then(number);
     let asked = pages(words.next());
     if words.next().is_some() {
-        return Wish::Bad(MANY_WORDS);
+        return Err(UsageError::ManyWords);
     }
-    match (first, days, length, asked) {
-        (Some(first), Some(days), Some(length), Ok(pages)) => Wish::Play(Options {
-            manner,
-            first,
-            days,
-            length,
-            pages,
-        }),
-        (_, _, _, Err(message)) => Wish::Bad(message),
-        _ => Wish::Bad(FEW_WORDS),
-    }
+    let pages = asked?;
+    Ok(Wish::Play(Options {
+        manner,
+        first: first.ok_or(UsageError::FewWords)?,
+        days: days.ok_or(UsageError::FewWords)?,
+        length: length.ok_or(UsageError::FewWords)?,
+        pages,
+    }))
 }
 
 // The words after the program's name.
-pub fn read(args: Args) -> Wish {
-    let mut words = args;
+pub fn read(mut words: Args) -> Result<Wish, UsageError> {
     let _program = words.next();
-    let Some(word) = words.next() else {
-        return Wish::Bad(NO_MODE);
-    };
+    let word = words.next().ok_or(UsageError::NoMode)?;
     match word.as_str() {
-        "--help" | "-h" => Wish::Help,
+        "--help" | "-h" => Ok(Wish::Help),
         "days" => played(Manner::AsMade, words),
         "every-act" => played(Manner::EveryAct, words),
-        "bench" => Wish::Bench,
-        _ => Wish::Bad(NO_MODE),
+        "bench" => Ok(Wish::Bench),
+        _ => Err(UsageError::NoMode),
     }
 }

@@ -1,11 +1,11 @@
-use Rattle.std.proofs.Common.{sym, inl, inr}
-use Rattle.days.proofs.Pages.{put_placed, placed_away, placed_long}
+use Rattle.std.proofs.Common.{arith, refl}
+use Rattle.days.specs.Held.{write_of}
+use Rattle.days.proofs.Pages.{placed_there, placed_away}
 use Rattle.days.proofs.device.place.Goals as goal
 
-pub returns-then-bytes-le-PAGE_LEN : goal.returns-then-bytes-le-PAGE_LEN
-returns-then-bytes-le-PAGE_LEN c =
-    put_placed _ _ _ _ c.if-page-pages.true c.if-bytes-le-PAGE_LEN.true c.copy_from_slice.ensures.after
+pub returns-in-Some : goal.returns-in-Some
+returns-in-Some c =
+    placed_there _ c.args.leaves (write_of c.args.write.now) _ _ (omega (arith, c.in-Some.ensures.variant.0 refl)) c.in-Some.ensures.value c.of.ensures
 
-pub returns-else-page-pages : goal.returns-else-page-pages
-returns-else-page-pages c =
-    elim c.else-page-pages.either [ inl p ↦ sym (placed_long _ _ _ p.1) | inr h ↦ sym (placed_away _ _ _ h) ]
+pub returns-in_default : goal.returns-in_default
+returns-in_default c = placed_away _ c.args.leaves (write_of c.args.write.now) c.in_default.ensures.item.3

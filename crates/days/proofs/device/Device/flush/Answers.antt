@@ -1,15 +1,20 @@
-use Rattle.std.proofs.Common.{◌≡◌, length, ap, ◌∙◌, arith}
-use Rattle.std.proofs.lemmas.List.{with_items_is}
+use Rattle.std.proofs.Common.{◌+◌, drop, vec_items, sym, ap, ◌∙◌}
+use Rattle.std.proofs.lemmas.List.{at_drop_all}
 use Rattle.model.specs.Mail.{each}
-use Rattle.days.specs.Held.{cut_whole, write_of}
-use Rattle.days.proofs.Pages.{after_flush, device_same}
+use Rattle.model.specs.Device.{all_written}
+use Rattle.days.specs.Held.{write_of}
+use Rattle.days.proofs.Pages.{written_more, device_same}
 use Rattle.days.proofs.device.Device.flush.Goals as goal
 
+pub loop-write-preserved : goal.loop-write-preserved
+loop-write-preserved c =
+    c.loop-write.invariant ∙ written_more _ _ _ _ c.loop-write-test.true
+    ∙ ap (λ ps. all_written ps (each write_of (drop (c.loop-write.write-index + 1) c.deref-write-items.result.now))) (sym c.place.ensures)
+
 pub returns : goal.returns
+unfolding all_written
 returns c =
-    let long : length c.place_all.new.pages ≡ c.args.self.now.pages.len =
-    omega (arith, c.place_all.auto.pages, ap length c.as_mut_slice.ensures.value, c.args.self.now.pages.ok.0) in
     device_same
-    (ap cut_whole (with_items_is c.args.self.now.pages c.place_all.new.pages long)
-    ∙ after_flush _ _ _ _ _ c.place_all.ensures c.as_mut_slice.ensures.value c.as_slice.ensures.value)
+    (sym (c.loop-write.invariant ∙ at_drop_all (λ ws. all_written (vec_items c.loop-write.self.1.0) (each write_of ws)) _ _ c.loop-write-test.false)
+    ∙ ap (λ ws. all_written (vec_items c.args.self.now.pages) (each write_of ws)) c.deref-write-items.ensures.value)
     (ap (each write_of) c.clear.ensures.items)

@@ -1,11 +1,10 @@
-use Rattle.std.proofs.Common.{replicate, ap, ◌∙◌}
+use Rattle.std.proofs.Common.{ap, ◌∙◌, sym}
+use Rattle.std.specs.List.{each_same}
 use Rattle.model.specs.Mail.{each}
-use Rattle.days.specs.Held.{cut_whole, write_of}
-use Rattle.days.proofs.Pages.{cut_empty, device_same}
+use Rattle.days.specs.Held.{write_of}
+use Rattle.days.proofs.Pages.{blank_are, device_same, zeros_are}
 use Rattle.days.proofs.device.Device.new.Goals as goal
 
 pub returns : goal.returns
 returns c =
-    device_same
-    (ap cut_whole (c.in_ok-pages.ensures.items_if_clones_equal (λ y e. e) ∙ ap (λ n. replicate n 0) c.in-Some.ensures.1) ∙ cut_empty _)
-    (ap (each write_of) c.new.ensures.items)
+    device_same (c.in_ok-vec.ensures.items_if_clones_equal (λ y e. each_same _ y e.whole) ∙ blank_are _ _ (sym (zeros_are 512))) (ap (each write_of) c.new.ensures.items)

@@ -15,7 +15,7 @@ const MARKS: u8 = 8;
 // How many bytes a number takes.
 const NUMBER_BYTES: usize = 8;
 
-// In bytes.
+// In bytes; bounds of its own, as those above.
 const LONGEST_NAME: usize = 64;
 
 const LONGEST_LETTER: usize = 65_000;
@@ -28,7 +28,7 @@ pub fn number(bytes: &[u8]) -> Option<(u64, &[u8])>
     Some((u64::from_be_bytes(*digits), rest))
 }
 
-// A number, if it is below a limit.
+// A number, if it is below a limit. One line, as the next one: a closure for the comparison would be longer.
 fn number_below(bytes: &[u8], limit: u64) -> Option<(u64, &[u8])>
     ensures { and_rest result ≡ only (λ n. nat_lt n limit) read_number bytes.now }
 {

@@ -15,20 +15,19 @@ const MOST_ACTIONS: u64 = 8;
 // A test may hold tests, three more deep.
 pub const DEEPEST_TEST: u8 = 4;
 
-// A kind of test, with the byte that each test of that kind begins with.
+// A kind of test; its byte stands in `try_from`.
 #[derive(Clone, Copy, PartialEq, Eq, Debug)]
 enum TestKind {
-    Always = 0,
-    FieldHas = 1,
-    FieldIs = 2,
-    Longer = 3,
-    Marked = 4,
-    Neither = 5,
-    Both = 6,
-    Either = 7,
+    Always,
+    FieldHas,
+    FieldIs,
+    Longer,
+    Marked,
+    Neither,
+    Both,
+    Either,
 }
 
-// The number stands twice: an enum is made from a number by a match alone.
 impl TryFrom<u8> for TestKind {
     type Error = UnknownKind;
 
@@ -49,18 +48,17 @@ impl TryFrom<u8> for TestKind {
     }
 }
 
-// A kind of action, with the byte that each action of that kind begins with.
+// A kind of action; its byte stands in `try_from`.
 #[derive(Clone, Copy, PartialEq, Eq, Debug)]
 enum ActionKind {
-    Keep = 0,
-    File = 1,
-    Away = 2,
-    OnTo = 3,
-    Mark = 4,
-    Halt = 5,
+    Keep,
+    File,
+    Away,
+    OnTo,
+    Mark,
+    Halt,
 }
 
-// The number stands twice: an enum is made from a number by a match alone.
 impl TryFrom<u8> for ActionKind {
     type Error = UnknownKind;
 

@@ -50,7 +50,7 @@ fn list_count(bytes: &[u8]) -> Option<(u64, &[u8])>
     parts::number(bytes).filter(|(count, _)| (1..=MOST_LISTED).contains(count))
 }
 
-// A house, a person there, and the letter for them.
+// A house, a person there, and the letter for them. Commands that read part after part are alike in form only: each has its own parts.
 fn hand_in(bytes: &[u8]) -> Option<Command<&[u8]>>
     ensures { Answers result (whole read_hand_in bytes.now) }
 {
@@ -166,7 +166,7 @@ fn find(bytes: &[u8]) -> Option<Command<&[u8]>>
     )
 }
 
-// Any command, if all of the text spells it.
+// Any command, if all of the text spells it. A match, since of a table of functions it would have to be proved that each kind has an entry.
 #[tactic(auto, unfolding(crate::specs::Reader::command_of, crate::specs::Reader::read_command, crate::specs::Reader::by_kind))]
 pub fn command(text: &[u8]) -> Option<Command<&[u8]>>
     ensures { Answers result (command_of text.now) }

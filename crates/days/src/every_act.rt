@@ -29,7 +29,7 @@ fn ways(waiting: usize) -> u64 {
     CHOICES.saturating_pow(waiting.min(TRIED_WRITES) as u32)
 }
 
-// Cuts off after 0 acts, 1, 2 and so on, until it came to its end.
+// Cuts off after 0 acts, 1, 2 and so on, until it came to its end. A loop, since `any` can't hand on trouble.
 fn until_ended<F: FnMut(u64) -> Result<bool, Trouble>>(mut cut: F) -> Result<(), Trouble>
     requires { F.IsAlwaysCallable cut }
 {

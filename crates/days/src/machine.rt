@@ -131,7 +131,7 @@ impl Machine {
         self.house.take_memory(&other.house);
     }
 
-    // Goes on from an act to the end, or until so many acts are done.
+    // Goes on from an act to the end, or until so many acts are done. The host's `finish` neither counts acts nor stops after so many of them.
     fn run(&mut self, first: Told, device: &mut Device, limit: u64) -> Result<Ran, Fault> {
         let mut world = World {
             disk: &mut *device,
@@ -182,7 +182,7 @@ impl Machine {
         self.say(text, device, MOST_ACTS)?.whole()
     }
 
-    // Whether a house with power is as the plain one: all that can be asked is asked.
+    // Whether a house with power is as the plain one: all that can be asked is asked. A loop, since `all` can't hand on a fault.
     pub fn is_as(&mut self, device: &mut Device, plain: &PlainHouse) -> Result<bool, Fault> {
         for person in 0..MOST_PEOPLE as u64 {
             let text = spelled(self.heap, &Command::Boxes { person })?;

@@ -17,6 +17,9 @@ const MOST_HOUSES: u64 = 16;
 
 const LONGEST_NAME: u64 = 64;
 
+// Letters are shorter than this.
+const LETTER_LIMIT: u64 = 1200;
+
 // The numbers of pages that days are played on: the fewest that a house can have, some that divide badly, and more room.
 const SIZES: [u64; 4] = [256, 257, 300, 1024];
 
@@ -198,7 +201,8 @@ impl Maker {
         }
     }
 
-    // A name out of few, so that some are said twice, and now and then a long one.
+    // A name out of few, so that some are said twice, and now and then a long one. The arms draw again, here and in `person`, `kind` and `acts`, or
+    // have unlike shares: a table to draw from would be longer.
     fn name(&mut self) -> Result<Vec<u8>, AllocError> {
         match self.random.below(12) {
             0 => Vec::from_slice(self.heap, b"in"),
@@ -218,12 +222,17 @@ impl Maker {
     // A name of any length, of one byte again and again.
     fn long_name(&mut self) -> Result<Vec<u8>, AllocError> {
         let len = self.random.below(LONGEST_NAME).saturating_add(1);
+        self.of_one_byte(len)
+    }
+
+    // One byte, drawn once, so many times.
+    fn of_one_byte(&mut self, len: u64) -> Result<Vec<u8>, AllocError> {
         let byte = self.random.byte();
         self.repeated(byte, len)
     }
 
     // A byte so many times.
-    fn repeated(&mut self, byte: u8, len: u64) -> Result<Vec<u8>, AllocError> {
+    fn repeated(&self, byte: u8, len: u64) -> Result<Vec<u8>, AllocError> {
         vec![in self.heap; byte; len as usize]
     }
 
@@ -264,9 +273,8 @@ impl Maker {
 
     // A letter of any length, of one byte again and again.
     fn letter(&mut self) -> Result<Vec<u8>, AllocError> {
-        let len = self.random.below(1200);
-        let byte = self.random.byte();
-        self.repeated(byte, len)
+        let len = self.random.below(LETTER_LIMIT);
+        self.of_one_byte(len)
     }
 
     // A command of one person alone. Person and name are drawn for each of these kinds, so that a number goes on making the same day.
@@ -373,7 +381,7 @@ impl Maker {
         match self.random.one_of(&SPOILT) {
             Spoilt::Shorter => {
                 let len = self.random.below(text.len() as u64);
-                text.truncate(usize::try_from(len).unwrap_or(0));
+                text.truncate(len as usize);
             }
             Spoilt::Longer => text.push(self.random.byte())?,
             Spoilt::Kind => {
@@ -465,6 +473,7 @@ pub fn make_day(
     let mut maker = Maker::new(heap, number, length);
     let identity = maker.identity(pages);
     let mut items = Vec::new(heap);
+    // Whether power is there is carried from one item to the next, so the items are made in a loop.
     let mut up = false;
     for _ in 0..length {
         if !up {

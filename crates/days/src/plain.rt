@@ -4,6 +4,7 @@ use super::command::{Command, Speller};
 use std::alloc::{AllocError, AllocFailed, Global};
 use std::fmt;
 
+// Bounds and weights of its own, as docs/COMMANDS.md has them: what is compared with a house is not told them by it.
 pub const MOST_PEOPLE: usize = 64;
 
 const MOST_BOXES: usize = 256;

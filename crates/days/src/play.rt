@@ -14,7 +14,7 @@ use std::ops::AddAssign;
 use std::{array, fmt};
 use thiserror::Error;
 
-// A house keeps at least so many bytes for each of its pages before it may say that there is no room.
+// A house keeps at least so many bytes for each of its pages before it may say that there is no room: a bound of its own, as the plain house's.
 const ROOM_OF_PAGE: u64 = 128;
 
 // The refusals that are counted one by one have numbers below this.
@@ -239,7 +239,7 @@ fn unlike(expected: Turn, got: Turn) -> Difference {
 impl Pair {
     // Both without power, on empty pages.
     pub fn new(heap: Global, identity: Identity) -> Result<Pair, AllocError> {
-        let pages = usize::try_from(identity.pages).unwrap_or(0);
+        let pages = usize::try_from(identity.pages).map_err(|_| AllocError)?;
         Ok(Pair {
             heap,
             identity,

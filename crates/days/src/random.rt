@@ -23,6 +23,7 @@ fn mix(state: u64) -> u64
     second ^ (second >> 31)
 }
 
+// Each draw says what state it leaves, since callers see the draws one by one and the day of a number hangs on all of them.
 impl Random {
     // The numbers of a seed.
     pub fn new(seed: u64) -> Random
@@ -40,7 +41,7 @@ impl Random {
         mix(self.state)
     }
 
-    // A number below another one; 0 where there is none.
+    // A number below another one; below 0 it gives 0, since an Option would be opened at each draw and nobody draws so.
     pub fn below(&mut self, limit: u64) -> u64
         ensures value { result ≡ drawn_below limit self.old.state }
         ensures bound { 0 < limit → result < limit }

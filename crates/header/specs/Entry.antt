@@ -21,7 +21,7 @@ FieldSays letter name out zero r out₁ =
     (r ≡ reply (field name letter)) × (out₁ ≡ first_or_none (field name letter) ++ drop (length (first_or_none (field name letter))) out)
 FieldSays letter name out (suc k) r out₁ = (r ≡ Refused (suc k)) × (out₁ ≡ out)
 
--- which refusal, 0 for none: 1, the letter is longer than 65,535; 2, the name has no bytes or more than 64; 3, the lent row is shorter than the letter
+-- which refusal, 0 for none, a number since FieldSays takes one: 1, the letter is longer than 65,535; 2, the name has no bytes or more than 64; 3, the lent row is shorter than the letter
 unfoldable pub refusal : (letter name out : List ℕ) → ℕ
 refusal letter name out =
     pick (nat_lt (length letter) 65536) (pick (nat_le 1 (length name) && nat_le (length name) 64) (pick (nat_le (length letter) (length out)) 0 3) 2) 1

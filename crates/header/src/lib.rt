@@ -61,7 +61,7 @@ impl Error for Refusal {}
 // A longer letter is refused; none that is handed in has more than 65,000 bytes.
 const MAX_LETTER: usize = 65_535;
 
-// As many bytes as any name in a house may have.
+// As many bytes as any name in a house may have; this crate knows nothing of houses, so it has the bound of its own.
 const MAX_NAME: usize = 64;
 
 // Whether the field can be looked for, and any value of it written to the row.

@@ -30,6 +30,7 @@ use memory::{Memory, Page, sensible};
 pub use pages::PAGE_LEN;
 use pages::places::Geometry;
 use people::Name;
+// Public, since the definition of a step names it.
 pub use phase::Phase;
 pub use refusal::Refusal;
 
@@ -98,7 +99,7 @@ fn told_page(memory: &mut Memory, page: &[u8]) -> Result<Told, Refusal>
     }
 }
 
-// The last act is done.
+// The last act is done. The phase lies in the memory as numbers, so no function for the next step can be kept there.
 fn told_next(memory: &mut Memory, out: &mut Row) -> Result<Told, Refusal>
     ensures { Does (stepped memory.old next_event) (told_result result) out.old memory.new out.new }
 {

@@ -87,7 +87,8 @@ pub fn selectors_at<'a>(memory: &'a Memory, geometry: &Geometry, place: usize) -
     &memory[place..place + selector_words(geometry)]
 }
 
-// Where the twin of a page of the directory lies that is to count.
+// Where the twin of a page of the directory lies that is to count. A page's number has a clause here and where it is written and read: a type for it
+// would have to lend the geometry.
 pub fn coming_place(memory: &Memory, geometry: &Geometry, t: u64) -> u64
     requires { t < directory_pages geometry.now.pages }
     ensures { result ≡ table_place geometry.now.pages (coming_of geometry.now.pages memory.now) t }

@@ -74,7 +74,8 @@ fn add_person(memory: &mut Memory, geometry: &Geometry, name: Name<'_>)
     memory[TO_SHOW] = people + 1;
 }
 
-// A new person with the box "in"; their number is shown after the commit.
+// A new person with the box "in"; their number is shown after the commit. Each test leaves with its refusal, here and in `new_box` and `boxes`:
+// it hands on no value, so there is nothing for a question mark.
 pub fn join(
     memory: &mut Memory,
     geometry: &Geometry,

@@ -41,7 +41,7 @@ fn tell_day(rt: &HostRuntime, day: &Day, last: usize) -> anyhow::Result<()> {
     Ok(())
 }
 
-// Prints where a day differs, the day so far, and the words that play it again.
+// Prints where a day differs, the day so far, and the words that play it again: among the days on standard output, so the error only makes the status.
 fn tell_difference(
     rt: &HostRuntime,
     options: &Options,

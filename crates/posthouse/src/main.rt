@@ -56,6 +56,7 @@ enum Trouble {
 
 // One sitting, from power to the last line.
 fn keep_house(rt: &HostRuntime, options: Options) -> Result<(), Trouble> {
+    // A match, since a closure would take the path, which is needed further on.
     let disk = match open(rt, &options) {
         Ok(disk) => disk,
         Err(error) => {

@@ -50,7 +50,7 @@ impl Options {
     }
 }
 
-// The number that a word spells.
+// The number that a word spells. The player reads numbers for itself too: a crate for two short functions would be longer.
 fn number(word: &str) -> Option<u64> {
     word.parse().ok()
 }

@@ -1,6 +1,5 @@
 -- A name that is kept in a record comes back from it, and no two names are kept alike.
 use Rattle.std.proofs.Common.{min, inl, inr, take_all, append-nil, ◌≡◌, ℕ, zero, suc, ◌+◌, ◌-◌, ◌*◌, ◌%◌, ◌≤◌, Bool, true, false, ◌&&◌, eqb, ltb, leb, List, [], ◌∷◌, ◌++◌, length, get_or, take, drop, sym, refl, ap, ◌∙◌, arith, length-append}
-use mathlib.Core.Bool.{false≢true}
 use lib.Seq.{take-append-le}
 use lib.Pointwise.{pointwise}
 use Rattle.std.proofs.lemmas.Bool.{cases_lt, and_parts, leb-true, eqb-true, eq-eqb}

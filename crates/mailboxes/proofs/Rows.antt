@@ -11,13 +11,21 @@ use Rattle.mailboxes.specs.Directory.{name_at, box_place, box_of}
 use Rattle.mailboxes.specs.Row.{row_at, row_fits}
 use Rattle.mailboxes.proofs.Records.{length_row_at, box_row_of, row_taken}
 
+module _ (dir : List ℕ) (at : ℕ) (fits : at + 9 ≤ length dir) where
+  words_long : length (bytes_of (part dir (at + 1) 8)) ≡ 64
+  words_long = omega (arith, length_bytes_of (part dir (at + 1) 8), length_part dir (at + 1) 8 (omega arith))
+
+  pub name_length : length (name_at dir at) ≡ min 64 (get_or dir at 0 % 256)
+  unfolding name_at
+  name_length = omega (arith, length-take (get_or dir at 0 % 256) (bytes_of (part dir (at + 1) 8)), words_long)
+
+-- the same of a record by itself
 module _ (rec : List ℕ) (twelve : length rec ≡ 12) where
   pub bytes_long : length (bytes_of (part rec 1 8)) ≡ 64
-  bytes_long = omega (arith, length_bytes_of (part rec 1 8), length_part rec 1 8 (omega arith))
+  bytes_long = words_long rec 0 (omega (arith, twelve))
 
-  pub name_length : length (name_at rec 0) ≡ min 64 (get_or rec 0 0 % 256)
-  unfolding name_at
-  name_length = omega (arith, length-take (get_or rec 0 0 % 256) (bytes_of (part rec 1 8)), bytes_long)
+  pub record_name_length : length (name_at rec 0) ≡ min 64 (get_or rec 0 0 % 256)
+  record_name_length = name_length rec 0 (omega (arith, twelve))
 
   pub name_front : (n : ℕ) → n ≡ length (name_at rec 0) → take n (bytes_of (part rec 1 8)) ≡ name_at rec 0
   unfolding name_at

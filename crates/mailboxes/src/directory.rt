@@ -7,6 +7,7 @@ ghost use Rattle.mailboxes.specs.Room.{people_room, box_room};
 ghost use Rattle.mailboxes.specs.Row.{row_fits, row_said, row_over};
 
 use crate::kept::Record;
+use crate::name::Wanted;
 use crate::place::{box_place, box_room, people_room, person_place};
 
 // Lent words with so many people and boxes in them, which they have room for.
@@ -59,15 +60,17 @@ impl<'a> Directory<'a> {
     pub fn find_person(&self, name: &[u8]) -> Option<u64>
         ensures { result ≡ find_person self.now.people self.now.words.now name.now }
     {
-        (0..self.people).find(|person| self.person_record(*person).has_name(name))
+        let name = Wanted::new(name);
+        (0..self.people).find(|person| self.person_record(*person).has_name(&name))
     }
 
     // The box of a person by this name.
     pub fn find_box(&self, person: u64, name: &[u8]) -> Option<u64>
         ensures { result ≡ find_box self.now.boxes self.now.words.now person name.now }
     {
+        let name = Wanted::new(name);
         (0..self.boxes).find(|index| {
-            self.owns(person, *index) && self.box_record(*index).has_name(name)
+            self.owns(person, *index) && self.box_record(*index).has_name(&name)
         })
     }
 

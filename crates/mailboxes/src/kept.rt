@@ -3,7 +3,7 @@ ghost use Rattle.std.specs.Prelude.{◌≡◌, ◌+◌, ◌<◌, ◌≤◌, [], 
 ghost use Rattle.pages.specs.Words.{bytes_of, part};
 ghost use Rattle.mailboxes.specs.Directory.{name_record, named, name_at, owner_at};
 
-use crate::name::{NAME_BYTES, NAME_WORDS, name_words};
+use crate::name::{NAME_BYTES, NAME_WORDS, Wanted, name_words};
 use crate::place::RECORD_WORDS;
 use pages::bytes::store;
 
@@ -49,15 +49,15 @@ impl<'a> Record<'a> {
     }
 
     // Whether it has this name.
-    pub(crate) fn has_name(&self, name: &[u8]) -> bool
-        ensures { result ≡ named self.now.words.now 0 name.now }
+    pub(crate) fn has_name(&self, name: &Wanted<'_>) -> bool
+        ensures { result ≡ named self.now.words.now 0 name.now.bytes.now }
     {
-        self.words[0] % OWNER_STEP == name.len() as u64
-            && self.name_words() == name_words(name).as_slice()
+        self.words[0] % OWNER_STEP == name.bytes.len() as u64
+            && self.name_words() == name.words.as_slice()
     }
 
     // How long its name is.
-    #[tactic(auto, using(crate::proofs::Rows::name_length))]
+    #[tactic(auto, using(crate::proofs::Rows::record_name_length))]
     pub(crate) fn name_len(&self) -> usize
         ensures long { result ≡ length (name_at self.now.words.now 0) }
         ensures short { result ≤ 64 }

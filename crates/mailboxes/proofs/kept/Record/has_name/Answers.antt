@@ -8,9 +8,9 @@ use Rattle.mailboxes.proofs.kept.Record.has_name.Goals as goal
 pub returns-then-self-name : goal.returns-then-self-name
 unfolding named
 returns-then-self-name c =
-    rw (eq-eqb (get_or c.args.self.now.words.now 0 0 % 256) (length c.args.name.now) c.if-self-name.true)
-    (c.eq.ensures ∙ same_pointwise c.name_words.result.now c.as_slice.result.now ∙ ap₂ same c.name_words.ensures (c.as_slice.ensures ∙ c.name_words-then-self-name.ensures))
+    rw (eq-eqb (get_or c.args.self.now.words.now 0 0 % 256) (length c.args.name.now.bytes.now) c.if-self-name.true)
+    (c.eq.ensures ∙ same_pointwise c.name_words.result.now c.as_slice.result.now ∙ ap₂ same c.name_words.ensures (c.as_slice.ensures ∙ c.args.name.now.kept))
 
 pub returns-else-self-name : goal.returns-else-self-name
 unfolding named
-returns-else-self-name c = rw (ne_eqb (get_or c.args.self.now.words.now 0 0 % 256) (length c.args.name.now) c.if-self-name.false)
+returns-else-self-name c = rw (ne_eqb (get_or c.args.self.now.words.now 0 0 % 256) (length c.args.name.now.bytes.now) c.if-self-name.false)

@@ -23,6 +23,7 @@ pub fn from_hex(heap: Global, text: &[u8]) -> Result<Option<Vec<u8>>, AllocError
 }
 
 // The digits of some bytes, in small letters.
+#[tactic(auto, using(crate::proofs::Digits::encoded))]
 pub fn to_hex(heap: Global, bytes: &[u8]) -> Result<String, AllocError>
     ensures { IfOk result (λ s. string_bytes s ≡ hexed bytes.now) }
 {

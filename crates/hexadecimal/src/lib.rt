@@ -1,25 +1,39 @@
 // Bytes as hexadecimal digits, two for each, and back. It promises just the bytes and the digits of the definition, and knows nothing of houses.
 #![tactic(auto)]
 
-ghost use Rattle.std.specs.Prelude.{◌≡◌, IfOk, vec_items, string_bytes};
-ghost use Rattle.hexadecimal.specs.Hex.{unhexed, hexed};
+ghost use Rattle.std.specs.Prelude.{◌≡◌, IfOk, IsOk, take, vec_items, string_bytes};
+ghost use Rattle.hexadecimal.specs.Hex.{pair_value, unhexed, hexed};
 ghost use Rattle.std.specs.Option.{option_map};
 
-use hex::FromHexError;
 use std::alloc::{AllocError, Global};
 
-// The bytes that a text of digits spells; none where there is an odd one or something else in it.
-pub fn from_hex(heap: Global, text: &[u8]) -> Result<Option<Vec<u8>>, AllocError>
-    ensures { IfOk result (λ o. option_map vec_items o ≡ unhexed text.now) }
+// The byte that two digits spell; none where one of them is no digit.
+fn byte_of(high: u8, low: u8) -> Option<u8>
+    ensures { result ≡ pair_value high low }
 {
-    match hex::decode(heap, text) {
-        Ok(bytes) => Ok(Some(bytes)),
-        // A match of its own, from which the proof knows that memory is not why the text is refused.
-        Err(error) => match error {
-            FromHexError::OutOfMemory => Err(AllocError),
-            _ => Ok(None),
-        },
+    let mut byte = [0];
+    hex::decode_to_slice([high, low], &mut byte).ok()?;
+    Some(byte[0])
+}
+
+// The bytes that a text of digits spells; none where there is an odd one or something else in it. The heap is asked as bytes are read: a text
+// that does not begin with one is refused at once, however little memory is left.
+pub fn from_hex(heap: Global, text: &[u8]) -> Result<Option<Vec<u8>>, AllocError>
+    ensures read { IfOk result (λ o. option_map vec_items o ≡ unhexed text.now) }
+    ensures at_once { unhexed (take 2 text.now) ≡ None → IsOk result }
+{
+    let (pairs, rest) = text.as_chunks::<2>();
+    if !rest.is_empty() {
+        return Ok(None);
     }
+    let mut bytes = Vec::new(heap);
+    for [high, low] in pairs {
+        let Some(byte) = byte_of(*high, *low) else {
+            return Ok(None);
+        };
+        bytes.push(byte)?;
+    }
+    Ok(Some(bytes))
 }
 
 // The digits of some bytes, in small letters.
@@ -58,7 +72,12 @@ mod tests {
         spells(&rt, b"g0", None)?;
         spells(&rt, b"1 23", None)?;
         spells(&rt, b"/0", None)?;
-        spells(&rt, b":0", None)
+        spells(&rt, b":0", None)?;
+        spells(&rt, b"zz0011", None)?;
+        spells(&rt, b"0011zz", None)?;
+        spells(&rt, b"00110", None)?;
+        spells(&rt, b"0\xc3\xa90", None)?;
+        spells(&rt, b"\xff\xff", None)
     }
 
     #[test]

@@ -1,7 +1,7 @@
 // What a house's pages are to a host.
 ghost use Rattle.std.specs.Prelude.{◌≡◌, ℕ, ◌<◌, List, OnOk};
 
-use super::PAGE_LEN;
+use super::{Fault, PAGE_LEN};
 use std::io;
 
 // What keeps pages: `size` is how many there are, and a page is asked for only if it is one of them. What it is to give a page, to take one and to keep
@@ -59,4 +59,14 @@ impl<D: Disk> Disk for &mut D {
     fn sync(&mut self) -> io::Result<()> {
         (**self).sync()
     }
+}
+
+// Makes sure that there is such a page.
+pub(super) fn find<D: Disk>(disk: &D, page: u64) -> Result<(), Fault>
+    ensures { OnOk result (page < D.size disk.now) }
+{
+    if page >= disk.pages() {
+        return Err(Fault::NoSuchPage(page));
+    }
+    Ok(())
 }

@@ -5,6 +5,7 @@ ghost use Rattle.house.specs.Machine.{own};
 ghost use Rattle.house.specs.Told.{event_meant};
 ghost use Rattle.host.specs.Goes.{means, Goes, ToldBy, After, Ends};
 
+use super::disk::find;
 use super::{Answer, Disk, Fault, PAGE_LEN, Rows, World, answer};
 use house::{Event, Identity, MEMORY_LEN, OUT_LEN, Told};
 use std::alloc::{AllocError, Global};
@@ -57,7 +58,6 @@ impl Machine {
     }
 
     // Does one act, and tells the house what came of it: the next act. After the last there is none, and it stays.
-    // The disk keeps its size even where this fails: no type can say so of a disk that is lent, so each function that does acts says it.
     pub fn act<D: Disk, R: Rows>(
         &mut self,
         told: Told,
@@ -66,33 +66,7 @@ impl Machine {
         ensures after { IfOk result (λ t. After (means D.gave D.took D.kept R.showed) told self.old.memory.items self.old.row.items world.old.disk world.old.rows t self.new.memory.items self.new.row.items world.new.disk world.new.rows) }
         ensures size { D.size world.new.disk ≡ D.size world.old.disk }
     {
-        match told {
-            Told::Read(page) => {
-                world.find(page)?;
-                let mut bytes = [0; PAGE_LEN];
-                world.disk.read_page(page, &mut bytes)?;
-                Ok(self.tell(Event::Page(&bytes)))
-            }
-            Told::Write(page) => {
-                world.find(page)?;
-                let bytes = self.row.first_chunk().unwrap();
-                world.disk.write_page(page, bytes)?;
-                Ok(self.tell(Event::Next))
-            }
-            Told::Flush => {
-                world.disk.sync()?;
-                Ok(self.tell(Event::Next))
-            }
-            Told::Shows(len) => {
-                if len > OUT_LEN as u64 {
-                    return Err(Fault::LongRow(len));
-                }
-                world.rows.show(&self.row[..len as usize])?;
-                Ok(self.tell(Event::Next))
-            }
-            Told::Send(_) => Ok(self.tell(Event::Lost)),
-            Told::Done | Told::No(_) => Ok(told),
-        }
+        self.act_on(told, &mut world.disk, &mut world.rows)
     }
 
     // Goes on from an act to the end of the command.
@@ -104,15 +78,7 @@ impl Machine {
         ensures ends { IfOk result (λ a. Ends (means D.gave D.took D.kept R.showed) first self.old.memory.items self.old.row.items world.old.disk world.old.rows a self.new.memory.items world.new.disk world.new.rows) }
         ensures size { D.size world.new.disk ≡ D.size world.old.disk }
     {
-        let mut told = first;
-        // Nothing here tells when a house comes to its end, so the count is the largest that there is.
-        for _ in 0..u64::MAX {
-            if let Some(answer) = answer(told) {
-                return Ok(answer);
-            }
-            told = self.act(told, world)?;
-        }
-        Err(Fault::Endless)
+        self.finish_on(first, &mut world.disk, &mut world.rows)
     }
 
     // Power comes to a house that has none: its number and how many houses there are; the pages are the disk's own number.
@@ -125,13 +91,7 @@ impl Machine {
         ensures goes { IfOk result (λ a. Goes (means D.gave D.took D.kept R.showed) own.start world.old.disk world.old.rows (on house houses (D.size world.old.disk)) a self.new.memory.items world.new.disk world.new.rows) }
         ensures size { D.size world.new.disk ≡ D.size world.old.disk }
     {
-        let identity = Identity {
-            house,
-            houses,
-            pages: world.disk.pages(),
-        };
-        let first = self.wake(identity);
-        self.finish(first, world)
+        self.power_on(house, houses, &mut world.disk, &mut world.rows)
     }
 
     // Says a command to the house, and does what it asks for until the command ends.
@@ -143,7 +103,101 @@ impl Machine {
         ensures goes { IfOk result (λ a. Goes (means D.gave D.took D.kept R.showed) self.old.memory.items world.old.disk world.old.rows (said text.now) a self.new.memory.items world.new.disk world.new.rows) }
         ensures size { D.size world.new.disk ≡ D.size world.old.disk }
     {
+        self.command_on(text, &mut world.disk, &mut world.rows)
+    }
+
+    // `power` for whoever has disk and rows only lent: no clause tells what becomes of a reference that is put into a `World`, and these tell it.
+    pub fn power_on<D: Disk, R: Rows>(
+        &mut self,
+        house: u64,
+        houses: u64,
+        disk: &mut D,
+        rows: &mut R,
+    ) -> Result<Answer, Fault>
+        ensures goes { IfOk result (λ a. Goes (means D.gave D.took D.kept R.showed) own.start disk.old rows.old (on house houses (D.size disk.old)) a self.new.memory.items disk.new rows.new) }
+        ensures size { D.size disk.new ≡ D.size disk.old }
+    {
+        let identity = Identity {
+            house,
+            houses,
+            pages: disk.pages(),
+        };
+        let first = self.wake(identity);
+        self.finish_on(first, disk, rows)
+    }
+
+    // `command` for whoever has disk and rows only lent.
+    pub fn command_on<D: Disk, R: Rows>(
+        &mut self,
+        text: &[u8],
+        disk: &mut D,
+        rows: &mut R,
+    ) -> Result<Answer, Fault>
+        ensures goes { IfOk result (λ a. Goes (means D.gave D.took D.kept R.showed) self.old.memory.items disk.old rows.old (said text.now) a self.new.memory.items disk.new rows.new) }
+        ensures size { D.size disk.new ≡ D.size disk.old }
+    {
         let first = self.say(text);
-        self.finish(first, world)
+        self.finish_on(first, disk, rows)
+    }
+
+    // Does one act, on a disk and a place for rows that are lent.
+    // The disk keeps its size even where this fails: no type can say so of a disk that is lent, so each function that does acts says it.
+    fn act_on<D: Disk, R: Rows>(
+        &mut self,
+        told: Told,
+        disk: &mut D,
+        rows: &mut R,
+    ) -> Result<Told, Fault>
+        ensures after { IfOk result (λ t. After (means D.gave D.took D.kept R.showed) told self.old.memory.items self.old.row.items disk.old rows.old t self.new.memory.items self.new.row.items disk.new rows.new) }
+        ensures size { D.size disk.new ≡ D.size disk.old }
+    {
+        match told {
+            Told::Read(page) => {
+                find(disk, page)?;
+                let mut bytes = [0; PAGE_LEN];
+                disk.read_page(page, &mut bytes)?;
+                Ok(self.tell(Event::Page(&bytes)))
+            }
+            Told::Write(page) => {
+                find(disk, page)?;
+                let bytes = self.row.first_chunk().unwrap();
+                disk.write_page(page, bytes)?;
+                Ok(self.tell(Event::Next))
+            }
+            Told::Flush => {
+                disk.sync()?;
+                Ok(self.tell(Event::Next))
+            }
+            Told::Shows(len) => {
+                if len > OUT_LEN as u64 {
+                    return Err(Fault::LongRow(len));
+                }
+                rows.show(&self.row[..len as usize])?;
+                Ok(self.tell(Event::Next))
+            }
+            Told::Send(_) => Ok(self.tell(Event::Lost)),
+            Told::Done | Told::No(_) => Ok(told),
+        }
+    }
+
+    // Goes on from an act to the end of the command, on a disk and a place for rows that are lent.
+    fn finish_on<D: Disk, R: Rows>(
+        &mut self,
+        first: Told,
+        disk: &mut D,
+        rows: &mut R,
+    ) -> Result<Answer, Fault>
+        ensures ends { IfOk result (λ a. Ends (means D.gave D.took D.kept R.showed) first self.old.memory.items self.old.row.items disk.old rows.old a self.new.memory.items disk.new rows.new) }
+        ensures size { D.size disk.new ≡ D.size disk.old }
+    {
+        let mut told = first;
+        // Nothing here tells when a house comes to its end, so the count is the largest that there is.
+        for _ in 0..u64::MAX {
+            if let Some(answer) = answer(told) {
+                return Ok(answer);
+            }
+            told = self.act_on(told, disk, rows)?;
+        }
+        Err(Fault::Endless)
     }
 }

@@ -1,7 +1,6 @@
 // What a house has around it: the disk that keeps its pages, and the place where its rows go.
-ghost use Rattle.std.specs.Prelude.{◌<◌, List, ℕ, OnOk};
+ghost use Rattle.std.specs.Prelude.{List, ℕ, OnOk};
 
-use super::{Disk, Fault};
 use std::io;
 
 // Where the rows go that a command shows. What it is to show one, each place says itself.
@@ -21,21 +20,9 @@ impl<R: Rows> Rows for &mut R {
     }
 }
 
-// What the acts of a command are done on.
+// What the acts of a command are done on. Whoever has disk and rows only lent takes `Machine::power_on` and `command_on`.
 #[derive(Drop)]
 pub struct World<D, R> {
     pub disk: D,
     pub rows: R,
-}
-
-impl<D: Disk, R> World<D, R> {
-    // Makes sure that there is such a page.
-    pub(super) fn find(&self, page: u64) -> Result<(), Fault>
-        ensures { OnOk result (page < D.size self.now.disk) }
-    {
-        if page >= self.disk.pages() {
-            return Err(Fault::NoSuchPage(page));
-        }
-        Ok(())
-    }
 }

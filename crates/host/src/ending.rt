@@ -29,7 +29,7 @@ pub fn answer(told: Told) -> Option<Answer>
 // What keeps a command from its end.
 #[derive(Debug, Drop, Error)]
 pub enum Fault {
-    #[error(transparent)]
+    #[error("{0}")]
     Io(#[from] io::Error),
     #[error("the house asked for page {0}, which is not there")]
     NoSuchPage(u64),

@@ -5,6 +5,8 @@ ghost use Rattle.house.specs.Told.{event_meant, kind_number};
 
 use pages::bytes::WORD_BYTES;
 
+use super::kind;
+
 // Which house it is: its number, how many houses there are, and how many pages it has.
 #[derive(Clone, Copy, PartialEq, Eq, Debug)]
 pub struct Identity {
@@ -52,12 +54,12 @@ impl TryFrom<u64> for Kind {
 
     fn try_from(number: u64) -> Result<Kind, UnknownKind> {
         match number {
-            0 => Ok(Kind::Power),
-            1 => Ok(Kind::Said),
-            2 => Ok(Kind::Page),
-            3 => Ok(Kind::Next),
-            4 => Ok(Kind::Heard),
-            5 => Ok(Kind::Lost),
+            kind::POWER => Ok(Kind::Power),
+            kind::SAID => Ok(Kind::Said),
+            kind::PAGE => Ok(Kind::Page),
+            kind::NEXT => Ok(Kind::Next),
+            kind::HEARD => Ok(Kind::Heard),
+            kind::LOST => Ok(Kind::Lost),
             _ => Err(UnknownKind),
         }
     }

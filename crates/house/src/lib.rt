@@ -5,6 +5,7 @@
 mod commit;
 mod event;
 mod export;
+pub mod kind;
 mod memory;
 mod people;
 mod phase;

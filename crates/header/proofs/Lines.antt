@@ -27,15 +27,13 @@ length_line_of [] = omega arith
 length_line_of (c ∷ cs) = elim (cases_Bool (eqb c 10)) [ inl e ↦ rw e (omega arith) | inr e ↦ rw e (omega (arith, length_line_of cs)) ]
 
 -- with the line's end, each line shortens what is left
-length_after_line : (cs : List ℕ) (c : ℕ) → length (after_line (c ∷ cs)) ≤ length cs
-unfolding after_line
-length_after_line [] c = elim (cases_Bool (eqb c 10)) [ inl e ↦ rw e (omega arith) | inr e ↦ rw e (omega arith) ]
-length_after_line (d ∷ ds) c = elim (cases_Bool (eqb c 10)) [ inl e ↦ rw e (omega arith) | inr e ↦ rw e (omega (arith, length_after_line ds d)) ]
+pub length_after_line : (c : ℕ) (cs : List ℕ) → length (after_line (c ∷ cs)) ≤ length cs
+length_after_line c cs = rw (after_line_first (c ∷ cs), length-drop) (omega arith)
 
 length_after : (bs : List ℕ) → length (after_line bs) ≤ length bs
 unfolding after_line
 length_after [] = omega arith
-length_after (c ∷ cs) = omega (arith, length_after_line cs c)
+length_after (c ∷ cs) = omega (arith, length_after_line c cs)
 
 -- any bound will do that is not below the number of bytes
 pub head_lines_enough : (n m : ℕ) (bs : List ℕ) → length bs ≤ n → length bs ≤ m → head_lines n bs ≡ head_lines m bs
@@ -49,7 +47,7 @@ head_lines_enough (suc n) (suc m) [] p q = refl
 head_lines_enough (suc n) (suc m) (c ∷ cs) p q =
     ap
     (λ ls. pick (none_of (line_of (c ∷ cs))) [] (line_of (c ∷ cs) ∷ ls))
-    (head_lines_enough n m (after_line (c ∷ cs)) (omega (arith, length_after_line cs c)) (omega (arith, length_after_line cs c)))
+    (head_lines_enough n m (after_line (c ∷ cs)) (omega (arith, length_after_line c cs)) (omega (arith, length_after_line c cs)))
 
 -- the head ends at an empty line
 pub lines_end : (bs : List ℕ) → line_of bs ≡ [] → lines_of bs ≡ []
@@ -67,7 +65,7 @@ lines_more [] l = absurd (omega arith)
 lines_more (c ∷ cs) l =
     rw
     (some_line (line_of (c ∷ cs)) l)
-    (ap (λ ls. line_of (c ∷ cs) ∷ ls) (head_lines_enough (length cs) (length (after_line (c ∷ cs))) (after_line (c ∷ cs)) (length_after_line cs c) (omega arith)))
+    (ap (λ ls. line_of (c ∷ cs) ∷ ls) (head_lines_enough (length cs) (length (after_line (c ∷ cs))) (after_line (c ∷ cs)) (length_after_line c cs) (omega arith)))
 
 -- a line of the field gives its value before those of the lines after it, and another line gives none
 
@@ -98,7 +96,7 @@ pub of_field_split : (name line front rest : List ℕ) → IsSplitAt line (lengt
 of_field_split name line front rest h =
     of_field_is name line ∙ rw (h.1, h.2, starts_with_front name line h.0, colon_first (drop (length name) line))
 
-pub of_field_short : (name line : List ℕ) → length line < length name → of_field name line ≡ false
+pub of_field_short : (name line : List ℕ) → length line ≤ length name → of_field name line ≡ false
 of_field_short name line l = starts_with_short (smalls name ++ 58 ∷ []) (smalls line) (rw (length-append, length_each small name, length_each small line) (omega arith))
 
 -- a value is no longer than the letter

@@ -19,7 +19,7 @@ drop_each f (suc n) [] = refl
 drop_each f (suc n) (x ∷ xs) = drop_each f n xs
 
 -- the standard library's small letter is this one
-lower_small : (c : ℕ) → to_ascii_lowercase c ≡ small c
+pub lower_small : (c : ℕ) → to_ascii_lowercase c ≡ small c
 lower_small c = grind (arith, nat_tests)
 
 smalls_map : (bs : List ℕ) → map to_ascii_lowercase bs ≡ smalls bs

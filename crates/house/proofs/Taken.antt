@@ -40,13 +40,13 @@ act_longer done r n out row₁ h l t = (t.0, ap (λ x. x ++ drop n out) t.1 ∙ 
 act_longer (refused k) r n out row₁ h l t = (t.0, ap (λ x. x ++ drop n out) t.1 ∙ take-append-drop n out)
 
 module _ (memory out : List ℕ) where
-  pub unfit_memory : (length memory ≡ 262144 → ⊥) → tell_fits memory out ≡ false
+  pub untold_memory : (length memory ≡ 262144 → ⊥) → tell_fits memory out ≡ false
   unfolding tell_fits
-  unfit_memory n = rw (ne_eqb (length memory) (length own.start) (λ e. n (e ∙ start_length)))
+  untold_memory n = rw (ne_eqb (length memory) (length own.start) (λ e. n (e ∙ start_length)))
 
-  pub unfit_out : length out < 131072 → tell_fits memory out ≡ false
+  pub untold_out : length out < 131072 → tell_fits memory out ≡ false
   unfolding tell_fits
-  unfit_out h = rw (lt-leb 131072 (length out) h, and_false_right)
+  untold_out h = rw (lt-leb 131072 (length out) h, and_false_right)
 
   pub not_told : (ev : Event) → tell_fits memory out ≡ false → TellSays memory ev out (tell_fits memory out) (No 0) memory out
   unfolding TellSays
@@ -61,6 +61,18 @@ module _ (memory out : List ℕ) where
       (answered.0, act_longer (own.step memory ev).act r 131072 out row₁ o.enough l answered.1)
 
 module _ (memory : List ℕ) (kind : ℕ) (bytes out : List ℕ) where
+  pub fits : length memory ≡ 262144 → kind ≤ 5 → 131072 ≤ length out → step_fits memory kind bytes out ≡ true
+  unfolding step_fits
+  fits m k o = rw (eq-eqb (length memory) (length own.start) (m ∙ sym start_length), le-leb kind 5 k, le-leb 131072 (length out) o)
+
+  pub unfit_memory : (length memory ≡ 262144 → ⊥) → step_fits memory kind bytes out ≡ false
+  unfolding step_fits
+  unfit_memory n = rw (ne_eqb (length memory) (length own.start) (λ e. n (e ∙ start_length)))
+
+  pub unfit_out : length out < 131072 → step_fits memory kind bytes out ≡ false
+  unfolding step_fits
+  unfit_out h = rw (lt-leb 131072 (length out) h, and_false_right, and_false_right)
+
   pub unfit_kind : 5 < kind → step_fits memory kind bytes out ≡ false
   unfolding step_fits
   unfit_kind h = rw (lt-leb kind 5 h, and_false_right)
@@ -79,9 +91,14 @@ module _ (memory : List ℕ) (kind : ℕ) (bytes out : List ℕ) where
   both_say true r memory₁ out₁ ev e a = rw (← e) a
   both_say false r memory₁ out₁ ev e a = a
 
-  pub taken_step : (r : Told) (memory₁ out₁ : List ℕ) (ev : Event) → kind ≤ 5 → ev ≡ event_of kind bytes
+  pub taken_step : (r : Told) (memory₁ out₁ : List ℕ) (ev : Event) → length memory ≡ 262144 → kind ≤ 5 → 131072 ≤ length out → ev ≡ event_of kind bytes
+      → Responds memory ev r out memory₁ out₁ → StepSays memory kind bytes out (step_fits memory kind bytes out) r memory₁ out₁
+  unfolding StepSays
+  taken_step r memory₁ out₁ ev m k o e a = rw (fits m k o, ← e) a
+
+  pub told_step : (r : Told) (memory₁ out₁ : List ℕ) (ev : Event) → kind ≤ 5 → ev ≡ event_of kind bytes
       → TellSays memory ev out (tell_fits memory out) r memory₁ out₁ → StepSays memory kind bytes out (step_fits memory kind bytes out) r memory₁ out₁
-  taken_step r memory₁ out₁ ev k e a = rw (both_fit k) (both_say (tell_fits memory out) r memory₁ out₁ ev e a)
+  told_step r memory₁ out₁ ev k e a = rw (both_fit k) (both_say (tell_fits memory out) r memory₁ out₁ ev e a)
 
 -- where the definition refuses, the memory and the row stay as they are
 pub told_no : (memory : List ℕ) (ev : Event) (k : ℕ) (out : List ℕ) → stepped memory ev ≡ record { memory = memory; act = refused k } → Responds memory ev (No k) out memory out

@@ -1,5 +1,5 @@
 -- Laws of the first touched page: it is touched and none before it is, or none is; and how a search finds it.
-use Rattle.std.proofs.Common.{◌≢◌, ◌≡◌, ℕ, zero, suc, ◌+◌, ◌-◌, ◌/◌, ◌<◌, ◌≤◌, List, length, Some, None, Option, sym, refl, ◌∙◌, inl, inr, arith, MatchOption}
+use Rattle.std.proofs.Common.{◌≢◌, ◌≡◌, ℕ, zero, suc, ◌+◌, ◌-◌, ◌/◌, ◌<◌, ◌≤◌, List, length, Some, None, Option, sym, refl, ap, ◌∙◌, inl, inr, arith, MatchOption}
 use Rattle.std.proofs.lemmas.Bool.{cases_eq, cases_lt, eq-eqb, ne_eqb}
 use Rattle.pages.specs.Bits.{bit}
 use Rattle.pages.specs.Touched.{Untouched, IsFirst, touched_among, first_touched}
@@ -47,14 +47,29 @@ first_touched_first counting coming from end t h =
     let within : t < from + (end - from) = omega (arith, h.from_on, h.before_end) in
     among_first counting coming (end - from) from t h.from_on within h.differs h.none_before
 
+-- one page of a walk: it is the first, or it is passed over
+pub first_touched_found : (counting coming : List ℕ) (t end : ℕ) → t < end → (bit counting t ≡ bit coming t → ⊥) →
+    first_touched counting coming t end ≡ Some t
+first_touched_found counting coming t end h o =
+    first_touched_first counting coming t end t (record { from_on = omega arith; before_end = h; differs = o; none_before = λ u l k. absurd (omega arith) })
+
+pub first_touched_same : (counting coming : List ℕ) (t end : ℕ) → t < end → bit counting t ≡ bit coming t →
+    first_touched counting coming t end ≡ first_touched counting coming (t + 1) end
+unfolding first_touched
+first_touched_same counting coming t end h e =
+    let n : ℕ = end - (t + 1) in
+    let l : end - t ≡ suc n = omega arith in
+    let s : t + 1 ≡ suc t = omega arith in
+    ap (λ k. touched_among counting coming k t) l ∙ among_same counting coming n t e ∙ ap (touched_among counting coming n) (sym s)
+
 -- what a search up to `stop` finds, where no page from there on is touched
-pub first_touched_found : (counting coming : List ℕ) (from end stop : ℕ) (r : Option ℕ) → stop ≤ end → Untouched counting coming stop end →
+pub first_touched_by_search : (counting coming : List ℕ) (from end stop : ℕ) (r : Option ℕ) → stop ≤ end → Untouched counting coming stop end →
     MatchOption r (Untouched counting coming from stop)
     (λ t. (from ≤ t) × (t < stop) × (bit counting t ≢ bit coming t) × Untouched counting coming from t) →
     r ≡ first_touched counting coming from end
-first_touched_found counting coming from end stop None l past h =
+first_touched_by_search counting coming from end stop None l past h =
     sym (first_touched_untouched counting coming from end (λ u a b. elim (cases_lt u stop) [ inl k ↦ h u a k | inr k ↦ past u k b ]))
-first_touched_found counting coming from end stop (Some t) l past h =
+first_touched_by_search counting coming from end stop (Some t) l past h =
     sym (first_touched_first counting coming from end t (record { from_on = h.0; before_end = omega arith; differs = h.2; none_before = h.3 }))
 
 abbrev Says : List ℕ → List ℕ → ℕ → ℕ → Option ℕ → Type 0

@@ -8,7 +8,7 @@ use Rattle.header.proofs.Lines.{of_field_split, of_field_short}
 use Rattle.header.proofs.head.value_in.Goals as goal
 
 pub returns-in_err-front : goal.returns-in_err-front
-returns-in_err-front c = rw c.from_residual.ensures (of_field_short c.args.name.now c.args.line.now c.in_err-front.ensures.cases)
+returns-in_err-front c = rw c.from_residual.ensures (of_field_short c.args.name.now c.args.line.now (omega (arith, c.in_err-front.ensures.cases)))
 
 pub returns-then-not-equals : goal.returns-then-not-equals
 returns-then-not-equals c =

@@ -3,9 +3,8 @@ ghost use Rattle.std.specs.Prelude.{◌≡◌, ◌<◌, ◌≤◌, length, take,
 ghost use Rattle.house.specs.Entry.{from_eight, event_of};
 ghost use Rattle.house.specs.Told.{event_meant, kind_number};
 
-use pages::bytes::WORD_BYTES;
-
 use super::kind;
+use pages::bytes::WORD_BYTES;
 
 // Which house it is: its number, how many houses there are, and how many pages it has.
 #[derive(Clone, Copy, PartialEq, Eq, Debug)]

@@ -10,6 +10,8 @@ pub returns : goal.returns
 returns c =
     let counting = c.args.counting.now in
     let coming = c.args.coming.now in
+    let found =
     first_touched_by_search counting coming c.args.from c.args.end c.min-end.result c.find.result (omega arith)
     (λ u a b. same_past counting coming u (omega arith) (omega arith))
-    (first_from_Range _ _ _ _ (λ t. bit counting t ≢ bit coming t) (λ t. bit counting t ≡ bit coming t) c.find.ensures.ran (λ x q k. search (rules, tests)) (λ x q k. search (rules, tests)))
+    (first_from_Range _ _ _ _ (λ t. bit counting t ≢ bit coming t) (λ t. bit counting t ≡ bit coming t) c.find.ensures.ran (λ x q k. search (rules, tests)) (λ x q k. search (rules, tests))) in
+    grind (arith, found)

@@ -1,15 +1,16 @@
 -- A name that is kept in a record comes back from it, and no two names are kept alike.
-use Rattle.std.proofs.Common.{min, inl, inr, take_all, append-nil, ◌≡◌, ℕ, zero, suc, ◌+◌, ◌-◌, ◌*◌, ◌%◌, ◌≤◌, Bool, true, false, ◌&&◌, eqb, ltb, leb, List, [], ◌∷◌, ◌++◌, length, get_or, take, drop, sym, refl, ap, ◌∙◌, arith, length-append}
-use lib.Seq.{take-append-le}
+use Rattle.std.proofs.Common.{inl, inr, w64, take_all, ◌≡◌, ℕ, zero, suc, ◌+◌, ◌-◌, ◌*◌, ◌%◌, ◌<◌, ◌≤◌, Bool, true, false, ◌&&◌, eqb, ltb, leb, List, [], ◌∷◌, ◌++◌, length, get_or, take, drop, sym, refl, ap, ◌∙◌, arith, length-append, length-take, length-drop}
 use lib.Pointwise.{pointwise}
 use Rattle.std.proofs.lemmas.Bool.{cases_lt, and_parts, leb-true, eqb-true, eq-eqb}
-use Rattle.std.proofs.lemmas.List.{drop_all, take_at, get_or-take, get_or-drop, drop-take, drop-drop}
+use Rattle.std.proofs.lemmas.List.{take_at, get_or-take, get_or-drop, get_or_append_left, get_or-append_right, get_or_past, ext_get_or, drop-take, drop-drop}
+use Rattle.std.specs.Int.{from_be_bytes}
 use Rattle.model.specs.Mail.{same, all_bytes}
 use Rattle.model.specs.House.{a_name}
 use Rattle.model.specs.Device.{zeros}
+use Rattle.model.specs.Promise.{from_bytes}
 use Rattle.pages.specs.Words.{words_in, bytes_of, part}
 use Rattle.mailboxes.specs.Directory.{name_words, name_record, owner_at, name_at, named}
-use Rattle.pages.proofs.Words.{bytes_of_words_in, words_in_take, length_zeros, drop_zeros}
+use Rattle.pages.proofs.Words.{word_of_bytes, bytes_of_words_in, length_zeros, get_or_zeros}
 use Rattle.model.proofs.Boxes.{same_true, same_refl}
 use Rattle.model.proofs.Places.{every_append}
 
@@ -41,22 +42,37 @@ name_short nm h = leb-true (length nm) 64 (and_parts (leb 1 (length nm)) (leb (l
 pub name_bytes : (nm : List ℕ) → a_name nm ≡ true → all_bytes nm ≡ true
 name_bytes nm h = (and_parts (leb 1 (length nm) && leb (length nm) 64) (all_bytes nm) h).1
 
--- the front of a name, and zeros up to 64 bytes
-pub name_padded : (nm : List ℕ) (k : ℕ) → k ≡ min (length nm) 64 → take k nm ++ drop k (zeros 64) ≡ take 64 (nm ++ zeros (64 - length nm))
-name_padded nm k e =
-    elim (cases_lt (length nm) 64) [
-      | inl l ↦
-          let whole : k ≡ length nm = omega arith in
-          let long : length (nm ++ zeros (64 - length nm)) ≤ 64 = omega (arith, length-append nm (zeros (64 - length nm)), length_zeros (64 - length nm)) in
-          rw (whole, take_all (length nm) nm (omega arith), drop_zeros (length nm) 64, take_all 64 (nm ++ zeros (64 - length nm)) long)
-      | inr l ↦
-          let front : k ≡ 64 = omega arith in
-          rw (front, drop_all 64 (zeros 64) (omega (arith, length_zeros 64)), take-append-le 64 nm (zeros (64 - length nm)) l) (append-nil (take 64 nm))
+-- a name's word is that of its eight bytes, 0 behind its end
+get_or_words_in : (n i : ℕ) (bs : List ℕ) → i < n → get_or (words_in n bs) i 0 ≡ from_bytes 0 (take 8 (drop (8 * i) bs))
+unfolding words_in
+get_or_words_in zero i bs l = absurd (omega arith)
+get_or_words_in (suc n) zero bs l = refl
+get_or_words_in (suc n) (suc i) bs l =
+    let e : 8 + 8 * i ≡ 8 * suc i = omega arith in
+    get_or_words_in n i (drop 8 bs) (omega arith) ∙ ap (λ r. from_bytes 0 (take 8 r)) (drop-drop (8 * i) 8 bs ∙ ap (λ m. drop m bs) e)
+
+padded : (nm : List ℕ) (m k : ℕ) → get_or (nm ++ zeros m) k 0 ≡ get_or nm k 0
+padded nm m k =
+    elim (cases_lt k (length nm)) [
+      | inl l ↦ get_or_append_left nm (zeros m) 0 k l
+      | inr l ↦ get_or-append_right nm (zeros m) (length nm) k 0 refl l ∙ get_or_zeros m (k - length nm) ∙ sym (get_or_past nm k 0 l)
     ]
 
-pub name_words_front : (nm bs : List ℕ) → bs ≡ take 64 (nm ++ zeros (64 - length nm)) → words_in 8 bs ≡ name_words nm
-unfolding name_words
-name_words_front nm bs e = ap (words_in 8) e ∙ words_in_take 8 64 (nm ++ zeros (64 - length nm)) (omega arith)
+module _ (nm : List ℕ) (i : ℕ) (few : i < 8) (bs : List ℕ) (long : length bs ≡ 8) (each : (k : ℕ) → k < 8 → get_or bs k 0 ≡ get_or nm (8 * i + k) 0) where
+  padded_bytes : bs ≡ take 8 (drop (8 * i) (nm ++ zeros (64 - length nm)))
+  padded_bytes =
+      let all = nm ++ zeros (64 - length nm) in
+      ext_get_or 0 bs (take 8 (drop (8 * i) all))
+      (omega (arith, long, length-take 8 (drop (8 * i) all), length-drop (8 * i) all, length-append nm (zeros (64 - length nm)), length_zeros (64 - length nm)))
+      (λ k l. let few_bytes : k < 8 = omega (arith, long) in
+      each k few_bytes ∙ sym (padded nm (64 - length nm) (8 * i + k)) ∙ sym (get_or-drop (8 * i) all k 0) ∙ sym (get_or-take 8 (drop (8 * i) all) k 0 few_bytes))
+
+  pub word_of_name : from_be_bytes w64 bs ≡ get_or (name_words nm) i 0
+  unfolding name_words
+  word_of_name =
+      word_of_bytes bs (omega (arith, long))
+      ∙ ap (from_bytes 0) (take_all 8 bs (omega (arith, long)) ∙ padded_bytes)
+      ∙ sym (get_or_words_in 8 i (nm ++ zeros (64 - length nm)) few)
 
 pub name_words_bytes : (nm : List ℕ) → length nm ≤ 64 → all_bytes nm ≡ true → bytes_of (name_words nm) ≡ nm ++ zeros (64 - length nm)
 unfolding name_words

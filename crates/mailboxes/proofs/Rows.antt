@@ -1,15 +1,30 @@
 -- The name in a record, and the row of a box piece by piece.
-use Rattle.std.proofs.Common.{◌≡◌, ℕ, ◌+◌, ◌-◌, ◌*◌, ◌%◌, ◌<◌, ◌≤◌, min, true, false, ◌&&◌, leb, List, [], ◌∷◌, ◌++◌, length, get_or, take, drop, sym, ap, ap₂, ◌∙◌, append_assoc, append-nil, arith, length-append, length-take, length-drop}
-use Rattle.std.proofs.lemmas.Bool.{lt-ltb, le-leb, lt-leb}
-use Rattle.std.proofs.lemmas.List.{drop_all, take_min}
-use Rattle.model.specs.Mail.{eight, with_length}
+use Rattle.std.proofs.Common.{inl, inr, ◌≡◌, ℕ, suc, ◌+◌, ◌-◌, ◌*◌, ◌/◌, ◌%◌, ◌<◌, ◌≤◌, min, true, false, ◌&&◌, leb, List, [], ◌∷◌, ◌++◌, length, get_or, take, drop, sym, ap, ap₂, ◌∙◌, append_assoc, append-nil, arith, length-append, length-take, length-drop}
+use Rattle.std.proofs.lemmas.Bool.{cases_lt, lt-ltb, le-leb, lt-leb}
+use Rattle.std.proofs.lemmas.List.{drop_all, take_min, get_or_append_left, get_or-append_right}
+use Rattle.model.specs.Mail.{flat, eight, with_length}
 use Rattle.model.specs.House.{box_row}
 use borrow.Rule.Slice.PartMut.{put_mid}
 use Rattle.pages.specs.Words.{bytes_of, part, patched}
-use Rattle.pages.proofs.Words.{bytes_of_one, bytes_of_append, length_eight, length_bytes_of, length_part, patched_next, patched_is_put_mid}
+use Rattle.pages.proofs.Words.{bytes_of_one, bytes_of_append, length_eight, length_bytes_of, length_part, get_d_part, patched_next, patched_is_put_mid}
 use Rattle.mailboxes.specs.Directory.{name_at, box_place, box_of}
 use Rattle.mailboxes.specs.Row.{row_at, row_fits}
 use Rattle.mailboxes.proofs.Records.{length_row_at, box_row_of, row_taken}
+
+byte_of_words : (ws : List ℕ) (k : ℕ) → k < 8 * length ws → get_or (bytes_of ws) k 0 ≡ get_or (eight (get_or ws (k / 8) 0)) (k % 8) 0
+unfolding bytes_of
+byte_of_words [] k l = absurd (omega arith)
+byte_of_words (w ∷ ws) k l =
+    elim (cases_lt k 8) [
+      | inl s ↦
+          let q : k / 8 ≡ 0 = omega arith in
+          let r : k % 8 ≡ k = omega arith in
+          get_or_append_left (eight w) (flat eight ws) 0 k (omega (arith, length_eight w)) ∙ rw (q, r)
+      | inr s ↦
+          let q : k / 8 ≡ suc ((k - 8) / 8) = omega arith in
+          let r : k % 8 ≡ (k - 8) % 8 = omega arith in
+          get_or-append_right (eight w) (flat eight ws) 8 k 0 (length_eight w) s ∙ byte_of_words ws (k - 8) (omega arith) ∙ rw (q, r)
+    ]
 
 module _ (dir : List ℕ) (at : ℕ) (fits : at + 9 ≤ length dir) where
   words_long : length (bytes_of (part dir (at + 1) 8)) ≡ 64
@@ -23,6 +38,11 @@ module _ (dir : List ℕ) (at : ℕ) (fits : at + 9 ≤ length dir) where
 module _ (rec : List ℕ) (twelve : length rec ≡ 12) where
   pub bytes_long : length (bytes_of (part rec 1 8)) ≡ 64
   bytes_long = words_long rec 0 (omega (arith, twelve))
+
+  pub name_byte : (k : ℕ) → k < 64 → get_or (bytes_of (part rec 1 8)) k 0 ≡ get_or (eight (get_or rec (1 + k / 8) 0)) (k % 8) 0
+  name_byte k l =
+      byte_of_words (part rec 1 8) k (omega (arith, twelve, length_part rec 1 8 (omega (arith, twelve))))
+      ∙ ap (λ w. get_or (eight w) (k % 8) 0) (get_d_part rec 1 8 (k / 8) 0 (omega arith))
 
   pub record_name_length : length (name_at rec 0) ≡ min 64 (get_or rec 0 0 % 256)
   record_name_length = name_length rec 0 (omega (arith, twelve))

@@ -1,11 +1,11 @@
 // Records: twelve words that begin with the owner and a name. A box keeps the number that its next letter gets behind them.
-ghost use Rattle.std.specs.Prelude.{◌≡◌, ◌+◌, ◌<◌, ◌≤◌, [], ◌∷◌, ◌++◌, length, slice_index};
+ghost use Rattle.std.specs.Prelude.{◌≡◌, ◌+◌, ◌<◌, ◌≤◌, [], ◌∷◌, ◌++◌, length, take, slice_index};
 ghost use Rattle.pages.specs.Words.{bytes_of, part};
 ghost use Rattle.mailboxes.specs.Directory.{name_record, named, name_at, owner_at};
 
 use crate::name::{NAME_BYTES, NAME_WORDS, Wanted, name_words};
 use crate::place::RECORD_WORDS;
-use pages::bytes::store;
+use pages::bytes::WORD_BYTES;
 
 // The page's format: a record's first word is the owner times this, and the name's length.
 const OWNER_STEP: u64 = 256;
@@ -65,13 +65,22 @@ impl<'a> Record<'a> {
         NAME_BYTES.min((self.words[0] % OWNER_STEP) as usize)
     }
 
-    // The bytes that its name is kept as: the name, and zeros behind it.
-    pub(crate) fn name_bytes(&self) -> [u8; NAME_BYTES]
-        ensures { result ≡ bytes_of (part self.now.words.now 1 8) }
+    // One of the bytes that its name is kept as: the name, and zeros behind it.
+    fn name_byte(&self, k: usize) -> u8
+        requires { k < 64 }
+        ensures { result ≡ slice_index (bytes_of (part self.now.words.now 1 8)) k }
     {
-        let mut bytes = [0; NAME_BYTES];
-        store(self.name_words(), &mut bytes).unwrap();
-        bytes
+        self.words[NAME_PLACE + k / WORD_BYTES].to_be_bytes()[k % WORD_BYTES]
+    }
+
+    // Fills a row with the front of these bytes, one by one, since a copy of so many bytes as a name has would call for `memcpy`.
+    pub(crate) fn put_name(&self, out: &mut [u8])
+        requires { length out.old ≤ 64 }
+        ensures { out.new ≡ take (length out.old) (bytes_of (part self.now.words.now 1 8)) }
+    {
+        for (k, slot) in out.iter_mut().enumerate() {
+            *slot = self.name_byte(k);
+        }
     }
 
     // The number that the next letter gets.

@@ -22,7 +22,7 @@ impl<'a> Record<'a> {
             return None;
         }
         store(&[len as u64], out).unwrap();
-        out[WORD_BYTES..next].copy_from_slice(&self.name_bytes()[..len]);
+        self.put_name(&mut out[WORD_BYTES..next]);
         store(&[self.next(), NO_LETTERS], &mut out[next..]).unwrap();
         Some(end as u64)
     }

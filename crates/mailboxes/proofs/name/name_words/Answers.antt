@@ -1,13 +1,14 @@
--- A name, padded with zeros, is kept word by word.
-use Rattle.std.proofs.Common.{◌≡◌, ◌++◌, take, drop, replicate, rules, sym, ap, ◌∙◌}
-use Rattle.pages.specs.Words.{words_in}
-use Rattle.pages.proofs.Words.{zeros_are}
-use Rattle.mailboxes.proofs.Names.{name_padded, name_words_front}
+-- Each word is the name's.
+use Rattle.std.proofs.Common.{◌≡◌, ℕ, ◌<◌, get_or, rules, arith}
+use Rattle.std.proofs.lemmas.List.{ext_get_or}
+use borrow.Author.Tests.{tests}
+use Rattle.mailboxes.specs.Directory.{name_words}
+use Rattle.mailboxes.proofs.Records.{length_name_words}
 use Rattle.mailboxes.proofs.name.name_words.Goals as goal
 
 pub returns : goal.returns
 returns c =
-    let name = c.args.name.now in
-    let n = c.min-len.result in
-    let read : c.load.new.words ≡ words_in 8 (take n name ++ drop n (replicate 64 0)) = search rules in
-    read ∙ name_words_front name _ (ap (λ z. take n name ++ drop n z) (sym (zeros_are 64)) ∙ name_padded name n c.min-len.ensures)
+    let made = c.from_fn.ensures.items in
+    let words = name_words c.args.name.now in
+    let each : (i : ℕ) → i < 8 → get_or c.from_fn.result i 0 ≡ get_or words i 0 = λ i l. let (p, q, called) = made.at i 0 l in search (rules, tests) in
+    ext_get_or 0 c.from_fn.result words (omega (arith, made.long, length_name_words c.args.name.now)) (λ i l. each i (omega (arith, made.long)))

@@ -1,7 +1,7 @@
 -- A name that is kept in a record comes back from it, and no two names are kept alike.
 use Rattle.std.proofs.Common.{inl, inr, w64, take_all, ◌≡◌, ℕ, zero, suc, ◌+◌, ◌-◌, ◌*◌, ◌%◌, ◌<◌, ◌≤◌, Bool, true, false, ◌&&◌, eqb, ltb, leb, List, [], ◌∷◌, ◌++◌, length, get_or, take, drop, sym, refl, ap, ◌∙◌, arith, length-append, length-take, length-drop}
 use lib.Pointwise.{pointwise}
-use Rattle.std.proofs.lemmas.Bool.{cases_lt, and_parts, leb-true, eqb-true, eq-eqb}
+use Rattle.std.proofs.lemmas.Bool.{cases_lt, and_parts, leb-true, eqb-true, eq-eqb, ne_eqb}
 use Rattle.std.proofs.lemmas.List.{take_at, get_or-take, get_or-drop, get_or_append_left, get_or-append_right, get_or_past, ext_get_or, drop-take, drop-drop}
 use Rattle.std.specs.Int.{from_be_bytes}
 use Rattle.model.specs.Mail.{same, all_bytes}
@@ -26,6 +26,14 @@ same_pointwise [] [] = refl
 same_pointwise [] (y ∷ ys) = refl
 same_pointwise (x ∷ xs) [] = refl
 same_pointwise (x ∷ xs) (y ∷ ys) = ap (λ t. eqb x y && t) (same_pointwise xs ys)
+
+-- rows whose first words differ are not the same
+pub first_differs : (xs ys : List ℕ) → (get_or xs 0 0 ≡ get_or ys 0 0 → ⊥) → same xs ys ≡ false
+unfolding same
+first_differs [] [] d = absurd (d refl)
+first_differs [] (y ∷ ys) d = refl
+first_differs (x ∷ xs) [] d = refl
+first_differs (x ∷ xs) (y ∷ ys) d = rw (ne_eqb x y d)
 
 pub all_bytes_zeros : (n : ℕ) → all_bytes (zeros n) ≡ true
 unfolding zeros

@@ -1,5 +1,5 @@
 -- Laws of the places that a directory counts through: count_up, first, and each, those and any over them.
-use Rattle.std.proofs.Common.{MatchOption, sym, ◌≡◌, ℕ, zero, suc, ◌+◌, ◌-◌, ◌<◌, ◌≤◌, Bool, true, false, ◌&&◌, List, [], ◌∷◌, ◌++◌, length, is_some, Some, None, Option, refl, ap, ◌∙◌, inl, inr, add-zero, add-one, arith}
+use Rattle.std.proofs.Common.{MatchOption, sym, ◌≡◌, ℕ, zero, suc, ◌+◌, ◌-◌, ◌<◌, ◌≤◌, Bool, true, false, ◌&&◌, List, [], ◌∷◌, ◌++◌, length, is_some, Some, None, Option, refl, ap, ◌∙◌, inl, inr, add-zero, add-one, arith, length-append}
 use Rattle.std.proofs.lemmas.Bool.{cases_Bool, cases_eq}
 use Rattle.std.specs.List.{filter, range_with_len}
 use denote.Param.Members.{Mut}
@@ -192,3 +192,17 @@ unfolding count_up
 filter_counted p zero from = refl
 filter_counted p (suc k) from =
     rw (add-one from) (elim (cases_Bool (p from)) [ inl e ↦ rw e (ap (λ l. from ∷ l) (filter_counted p k (suc from))) | inr e ↦ rw e (filter_counted p k (suc from)) ])
+
+-- counting up those that pass a test
+pub length_those : {A : Type 0} (p : A → Bool) (xs : List A) → length (those p xs) ≤ length xs
+length_those p [] = omega arith
+length_those p (x ∷ xs) = elim (cases_Bool (p x)) [ inl e ↦ rw e (omega (arith, length_those p xs)) | inr e ↦ rw e (omega (arith, length_those p xs)) ]
+
+those_push : (p : ℕ → Bool) (k : ℕ) → those p (count_up 0 (k + 1)) ≡ those p (count_up 0 k) ++ those p (k ∷ [])
+those_push p k = ap (λ n. those p (count_up 0 n)) (add-one k) ∙ ap (those p) (count_up_push k) ∙ those_append p (count_up 0 k) (k ∷ [])
+
+pub count_yes : (p : ℕ → Bool) (k : ℕ) → p k ≡ true → length (those p (count_up 0 (k + 1))) ≡ length (those p (count_up 0 k)) + 1
+count_yes p k e = ap length (those_push p k) ∙ length-append (those p (count_up 0 k)) (those p (k ∷ [])) ∙ rw e
+
+pub count_no : (p : ℕ → Bool) (k : ℕ) → p k ≡ false → length (those p (count_up 0 (k + 1))) ≡ length (those p (count_up 0 k))
+count_no p k e = ap length (those_push p k) ∙ length-append (those p (count_up 0 k)) (those p (k ∷ [])) ∙ rw e (add-zero (length (those p (count_up 0 k))))

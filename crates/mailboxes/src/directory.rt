@@ -74,13 +74,17 @@ impl<'a> Directory<'a> {
         })
     }
 
-    // How many boxes a person has.
+    // How many boxes a person has. A loop, since the count of a filter takes nearly twice its time.
     pub fn count_boxes(&self, person: u64) -> u64
         ensures { result ≡ count_boxes self.now.boxes self.now.words.now person }
     {
-        (0..self.boxes)
-            .filter(|index| self.owns(person, *index))
-            .count() as u64
+        let mut count = 0;
+        for index in 0..self.boxes {
+            if self.owns(person, index) {
+                count += 1;
+            }
+        }
+        count
     }
 
     // The next box of a person, from a place on.

@@ -1,5 +1,6 @@
 // Records: twelve words that begin with the owner and a name. A box keeps the number that its next letter gets behind them.
 ghost use Rattle.std.specs.Prelude.{◌≡◌, ◌+◌, ◌<◌, ◌≤◌, [], ◌∷◌, ◌++◌, length, take, slice_index};
+ghost use Rattle.model.specs.Mail.{same};
 ghost use Rattle.pages.specs.Words.{bytes_of, part};
 ghost use Rattle.mailboxes.specs.Directory.{name_record, named, name_at, owner_at};
 
@@ -48,12 +49,18 @@ impl<'a> Record<'a> {
         &self.words[NAME_PLACE..NEXT_PLACE]
     }
 
+    // Whether its name is kept as these words. The first one is asked by itself, since it tells most names apart.
+    fn is_kept_as(&self, words: &[u64; NAME_WORDS]) -> bool
+        ensures { result ≡ same (part self.now.words.now 1 8) words.now }
+    {
+        self.words[NAME_PLACE] == words[0] && self.name_words() == words.as_slice()
+    }
+
     // Whether it has this name.
     pub(crate) fn has_name(&self, name: &Wanted<'_>) -> bool
         ensures { result ≡ named self.now.words.now 0 name.now.bytes.now }
     {
-        self.words[0] % OWNER_STEP == name.bytes.len() as u64
-            && self.name_words() == name.words.as_slice()
+        self.words[0] % OWNER_STEP == name.bytes.len() as u64 && self.is_kept_as(&name.words)
     }
 
     // How long its name is.

@@ -1,7 +1,8 @@
 -- What is put onto pages one write after another is what the model puts there; and whoever reads a page sees the last write to it that waits.
-use Rattle.std.proofs.Common.{◌≡◌, ℕ, zero, suc, ◌+◌, ◌<◌, ◌≤◌, min, Bool, true, false, cond, eqb, List, [], ◌∷◌, ◌++◌, length, get_or, drop, set, replicate, reverse, Option, Some, None, Bor, ◌==◌, sym, refl, ap, ◌∙◌, inl, inr, arith, length-set, get_or-set_same, eq-eqb, ne_eqb}
+use Rattle.std.proofs.Common.{◌≡◌, ℕ, zero, suc, ◌+◌, ◌-◌, ◌<◌, ◌≤◌, min, Bool, true, false, cond, eqb, List, [], ◌∷◌, ◌++◌, length, get_or, take, drop, set, replicate, reverse, Option, Some, None, Bor, ◌==◌, sym, refl, ap, ◌∙◌, inl, inr, arith, length-set, get_or-set_same, eq-eqb, ne_eqb}
 use Rattle.std.specs.List.{find}
 use Rattle.std.specs.Option.{MatchOption, option_map}
+use Rattle.std.proofs.Math.Seq.{take-nil}
 use Rattle.std.proofs.lemmas.Bool.{cases_lt, cases_eq, cond-true, cond-false}
 use Rattle.std.proofs.lemmas.List.{set_past, set-get_or, get_or_default, reverse-append, at_drop_more, at_drop_all}
 use Rattle.model.specs.Mail.{pick, each}
@@ -111,6 +112,12 @@ pub blank_are : (n : ℕ) (p : Page) → p ≡ zeros 512 → replicate n p ≡ b
 unfolding blank
 blank_are zero p e = refl
 blank_are (suc n) p e = ap (λ q. q ∷ replicate n p) e ∙ ap (λ qs. zeros 512 ∷ qs) (blank_are n p e)
+
+-- pages that were filled up with such, where there were none
+pub blank_filled : (ps qs : List Page) (n m : ℕ) (p : Page) → ps ≡ [] → m ≡ 0 → p ≡ zeros 512 → qs ≡ take n ps ++ replicate (n - m) p → qs ≡ blank n
+blank_filled ps qs n m p e z q f =
+    f ∙ ap (λ xs. take n xs ++ replicate (n - m) p) e ∙ ap (λ xs. xs ++ replicate (n - m) p) (take-nil n)
+    ∙ ap (λ k. replicate k p) (omega arith) ∙ blank_are n p q
 
 pub device_same : {ps qs : List Page} {ws vs : List Write} → ps ≡ qs → ws ≡ vs →
     ◌≡◌ {A = PageDevice} (record { pages = ps; queue = ws }) (record { pages = qs; queue = vs })

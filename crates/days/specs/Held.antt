@@ -1,6 +1,8 @@
 -- What the device of a player holds: its pages, and the writes that wait.
-use Rattle.std.specs.Prelude.{ℕ, List, vec_items}
+use Rattle.std.specs.Prelude.{◌≡◌, ℕ, List, Ok, Err, vec_items, Result}
+use Rattle.std.specs.declared.alloc.AllocError.{AllocError}
 use Rattle.model.specs.Mail.{each}
+use Rattle.model.specs.Run.{queued}
 use Rattle.model.specs.Device.{Page, Write, set_page, page_at, half, Device as PageDevice}
 use Rattle.days.specs.declared.device.Device.{Device}
 use Rattle.days.specs.declared.device.Leaves.{Leaves}
@@ -28,3 +30,8 @@ left_of Half new old = half new old
 -- pages after such a write
 abbrev pub placed : Leaves → Write → List Page → List Page
 placed c w ps = set_page ps w.at (left_of c w.page (page_at ps w.at))
+
+-- after a write was asked for: it waits; without memory nothing changes
+abbrev pub Wrote : PageDevice → ℕ → Page → Result (Unit {0}) AllocError → PageDevice → Type 0
+Wrote d k p (Ok _) e = e ≡ queued d k p
+Wrote d k p (Err f) e = e ≡ d

@@ -3,7 +3,7 @@ ghost use Rattle.std.specs.Prelude.{◌≡◌, ◌<◌, ◌↔◌, [], length, I
 ghost use Rattle.model.specs.Mail.{each};
 ghost use Rattle.model.specs.Device.{blank, read_page, flushed, stopped};
 ghost use Rattle.model.specs.Run.{queued};
-ghost use Rattle.days.specs.Held.{device_of, leaves_number, write_of, placed, left_of};
+ghost use Rattle.days.specs.Held.{device_of, leaves_number, write_of, placed, left_of, Wrote};
 
 use host::{Disk, PAGE_LEN};
 use std::alloc::{AllocError, Global};
@@ -30,7 +30,7 @@ pub struct Waiting {
 }
 
 // Pages, and the writes to them that wait, the oldest first.
-#[derive(Clone, Drop)]
+#[derive(Drop)]
 pub struct Device {
     pages: Vec<Page>,
     waiting: Vec<Waiting>,
@@ -40,18 +40,14 @@ impl Leaves {
     // All that can be left of a write.
     pub const EVERY: [Leaves; 3] = [Leaves::Nothing, Leaves::All, Leaves::Half];
 
-    // What a page holds after a write of which so much is left.
-    fn of(self, new: &Page, old: &Page) -> Page
-        ensures { result ≡ left_of self new.now old.now }
+    // So much of a write comes onto its page.
+    fn put(self, new: &Page, page: &mut Page)
+        ensures { page.new ≡ left_of self new.now page.old }
     {
         match self {
-            Leaves::Nothing => *old,
-            Leaves::All => *new,
-            Leaves::Half => {
-                let mut page = *old;
-                page[..HALF_LEN].copy_from_slice(&new[..HALF_LEN]);
-                page
-            }
+            Leaves::Nothing => {}
+            Leaves::All => *page = *new,
+            Leaves::Half => page[..HALF_LEN].copy_from_slice(&new[..HALF_LEN]),
         }
     }
 }
@@ -62,7 +58,7 @@ fn place(pages: &mut Vec<Page>, write: &Waiting, leaves: Leaves)
     ensures { pages.new.items ≡ placed leaves (write_of write.now) pages.old.items }
 {
     if let Some(page) = pages.get_mut(write.page) {
-        *page = leaves.of(&write.bytes, page);
+        leaves.put(&write.bytes, page);
     }
 }
 
@@ -71,8 +67,10 @@ impl Device {
     pub fn new(heap: Global, pages: usize) -> Result<Device, AllocError>
         ensures { IfOk result (λ d. device_of d ≡ record { pages = blank pages; queue = [] }) }
     {
+        let mut empty = Vec::with_capacity(heap, pages)?;
+        empty.resize(pages, [0; PAGE_LEN])?;
         Ok(Device {
-            pages: vec![in heap; [0; PAGE_LEN]; pages]?,
+            pages: empty,
             waiting: Vec::new(heap),
         })
     }
@@ -99,6 +97,18 @@ impl Device {
         Some(waits.map_or(kept, |write| &write.bytes))
     }
 
+    // A write waits from now on; without memory nothing changes.
+    fn write(&mut self, page: usize, bytes: &Page) -> Result<(), AllocError>
+        ensures { Wrote (device_of self.old) page bytes.now result (device_of self.new) }
+    {
+        let write = Waiting {
+            page,
+            bytes: *bytes,
+        };
+        self.waiting.push(write)?;
+        Ok(())
+    }
+
     // Brings all that waits onto the pages. Of a flush there are no choices, and it and a stop have each a definition of its own.
     fn flush(&mut self)
         ensures { device_of self.new ≡ flushed (device_of self.old) }
@@ -117,6 +127,19 @@ impl Device {
             place(&mut self.pages, write, *leaves);
         }
         self.waiting.clear();
+    }
+}
+
+// By hand, since pages are copied in one go: a derived `clone` goes byte by byte.
+impl Clone for Device {
+    ghost is_clone = { λ d e. device_of e ≡ device_of d };
+
+    fn clone(&self) -> Result<Device, AllocError> {
+        let heap = self.heap();
+        Ok(Device {
+            pages: Vec::from_slice(heap, self.pages.as_slice())?,
+            waiting: Vec::from_slice(heap, self.waiting.as_slice())?,
+        })
     }
 }
 
@@ -139,12 +162,8 @@ impl Disk for Device {
         Ok(())
     }
 
-    // A write waits from now on.
     fn write_page(&mut self, page: u64, bytes: &Page) -> io::Result<()> {
-        self.waiting.push(Waiting {
-            page: page as usize,
-            bytes: *bytes,
-        })?;
+        self.write(page as usize, bytes)?;
         Ok(())
     }
 

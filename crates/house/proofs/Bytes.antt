@@ -1,11 +1,10 @@
 -- Numbers of bytes, the highest first, and parts of a list that may end early.
-use Rattle.std.proofs.Common.{◌≡◌, ℕ, zero, suc, ◌+◌, ◌-◌, ◌*◌, ◌≤◌, List, [], ◌∷◌, ◌++◌, length, take, drop, w64, refl, ap, ◌∙◌, append-nil, length-append, length-drop, arith}
-use borrow.Rule.Slice.PartMut.{put_mid}
-use Rattle.std.proofs.lemmas.List.{take_all, drop_all}
+use Rattle.std.proofs.Common.{◌≡◌, ℕ, zero, suc, ◌+◌, ◌-◌, ◌*◌, ◌<◌, ◌≤◌, List, [], ◌∷◌, ◌++◌, length, get_or, w64, sym, refl, ap, ◌∙◌, length-append, arith}
+use Rattle.std.proofs.lemmas.List.{take_all, get_or_append_left, get_or-append_right, ext_get_or}
 use Rattle.std.specs.Int.{from_be_bytes}
 use Rattle.model.specs.Device.{zeros}
 use Rattle.model.specs.Promise.{from_bytes}
-use Rattle.pages.proofs.Words.{word_of_bytes, length_zeros, take_zeros}
+use Rattle.pages.proofs.Words.{word_of_bytes, length_zeros, get_or_zeros}
 use Rattle.house.specs.Entry.{from_eight}
 
 -- zeros before a number change nothing
@@ -20,22 +19,20 @@ spelled n [] = refl
 spelled n (b ∷ bs) = spelled (256 * n + b) bs
 
 -- at most eight bytes at the end of eight zeros
-padded_is : (bs new : List ℕ) → length bs ≤ 8 → new ≡ bs →
-    put_mid (8 - length bs) (8 - (8 - length bs)) (0 ∷ 0 ∷ 0 ∷ 0 ∷ 0 ∷ 0 ∷ 0 ∷ 0 ∷ []) new ≡ zeros (8 - length bs) ++ bs
-unfolding zeros
-padded_is bs new h e =
-    let a : ℕ = 8 - length bs in
-    ap (put_mid a (8 - a) (zeros 8)) e
-    ∙ ap (λ r. take a (zeros 8) ++ (bs ++ r)) (drop_all (8 - a) (drop a (zeros 8)) (omega (arith, length-drop a (zeros 8), length_zeros 8)))
-    ∙ ap (λ r. take a (zeros 8) ++ r) (append-nil bs)
-    ∙ ap (λ r. r ++ bs) (take_zeros a 8 (omega arith))
+module _ (bs : List ℕ) (few : length bs ≤ 8) where
+  pub in_zeros : (k : ℕ) → k < 8 - length bs → 0 ≡ get_or (zeros (8 - length bs) ++ bs) k 0
+  in_zeros k l = sym (get_or_append_left (zeros (8 - length bs)) bs 0 k (omega (arith, length_zeros (8 - length bs))) ∙ get_or_zeros (8 - length bs) k)
 
-pub padded : (bs new : List ℕ) → length bs ≤ 8 → new ≡ bs →
-    from_be_bytes w64 (put_mid (8 - length bs) (8 - (8 - length bs)) (0 ∷ 0 ∷ 0 ∷ 0 ∷ 0 ∷ 0 ∷ 0 ∷ 0 ∷ []) new) ≡ from_eight 0 bs
-padded bs new h e =
-    let size : length (zeros (8 - length bs) ++ bs) ≡ 8 = length-append (zeros (8 - length bs)) bs ∙ omega (arith, length_zeros (8 - length bs)) in
-    ap (from_be_bytes w64) (padded_is bs new h e)
-    ∙ word_of_bytes (zeros (8 - length bs) ++ bs) (omega arith)
-    ∙ ap (from_bytes 0) (take_all 8 (zeros (8 - length bs) ++ bs) (omega arith))
-    ∙ after_zeros (8 - length bs) bs
-    ∙ spelled 0 bs
+  pub in_bytes : (k : ℕ) → 8 - length bs ≤ k → get_or bs (k - (8 - length bs)) 0 ≡ get_or (zeros (8 - length bs) ++ bs) k 0
+  in_bytes k l = sym (get_or-append_right (zeros (8 - length bs)) bs (8 - length bs) k 0 (length_zeros (8 - length bs)) l)
+
+  size : length (zeros (8 - length bs) ++ bs) ≡ 8
+  size = length-append (zeros (8 - length bs)) bs ∙ omega (arith, length_zeros (8 - length bs))
+
+  pub padded : (word : List ℕ) → length word ≡ 8 → ((k : ℕ) → k < 8 → get_or word k 0 ≡ get_or (zeros (8 - length bs) ++ bs) k 0) → from_be_bytes w64 word ≡ from_eight 0 bs
+  padded word long each =
+      ap (from_be_bytes w64) (ext_get_or 0 word (zeros (8 - length bs) ++ bs) (omega (arith, long, size)) (λ k l. each k (omega (arith, long))))
+      ∙ word_of_bytes (zeros (8 - length bs) ++ bs) (omega (arith, size))
+      ∙ ap (from_bytes 0) (take_all 8 (zeros (8 - length bs) ++ bs) (omega (arith, size)))
+      ∙ after_zeros (8 - length bs) bs
+      ∙ spelled 0 bs

@@ -1,10 +1,12 @@
 // What a house is told, and how that is read off a kind and some bytes.
-ghost use Rattle.std.specs.Prelude.{◌≡◌, ◌<◌, ◌≤◌, length, take, drop, MatchOption, MatchResult};
+ghost use Rattle.std.specs.Prelude.{◌≡◌, ◌-◌, ◌<◌, ◌≤◌, ◌++◌, length, take, drop, slice_index, MatchOption, MatchResult};
+ghost use Rattle.model.specs.Device.{zeros};
 ghost use Rattle.house.specs.Entry.{from_eight, event_of};
 ghost use Rattle.house.specs.Told.{event_meant, kind_number};
 
 use super::kind;
 use pages::bytes::WORD_BYTES;
+use std::array;
 
 // Which house it is: its number, how many houses there are, and how many pages it has.
 #[derive(Clone, Copy, PartialEq, Eq, Debug)]
@@ -64,14 +66,22 @@ impl TryFrom<u64> for Kind {
     }
 }
 
-// The number that at most eight bytes spell, the highest first.
+// The byte at a place of eight, where at most eight bytes stand behind zeros.
+fn padded_byte(bytes: &[u8], k: usize) -> u8
+    requires { (length bytes.now ≤ 8) × (k < 8) }
+    ensures { result ≡ slice_index (zeros (8 - length bytes.now) ++ bytes.now) k }
+{
+    let missing = WORD_BYTES - bytes.len();
+    if k < missing { 0 } else { bytes[k - missing] }
+}
+
+// The number that at most eight bytes spell, the highest first. Put together byte by byte, since a copy of so many bytes as there are would
+// call for `memcpy`.
 fn number(bytes: &[u8]) -> u64
     requires { length bytes.now ≤ 8 }
     ensures { result ≡ from_eight 0 bytes.now }
 {
-    let mut word = [0; WORD_BYTES];
-    word[WORD_BYTES - bytes.len()..].copy_from_slice(bytes);
-    u64::from_be_bytes(word)
+    u64::from_be_bytes(array::from_fn(|k| padded_byte(bytes, k)))
 }
 
 // Eight bytes from a place on, or as many as there are.

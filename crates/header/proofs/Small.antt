@@ -1,5 +1,5 @@
 -- Laws of small letters, and of the tests that compare texts in them: what the library's methods answer is what the definitions say.
-use Rattle.std.proofs.Common.{◌≡◌, ℕ, zero, suc, ◌+◌, ◌<◌, ◌≤◌, Bool, false, not, cond, ◌&&◌, eqb, ltb, List, [], ◌∷◌, ◌++◌, length, take, drop, map, Some, None, sym, refl, ap, ◌∙◌, inl, inr, arith, le-ltb, lt-ltb}
+use Rattle.std.proofs.Common.{◌≡◌, ℕ, zero, suc, ◌+◌, ◌<◌, ◌≤◌, Bool, false, not, cond, ◌&&◌, eqb, ltb, List, [], ◌∷◌, ◌++◌, length, get_or, take, drop, map, Some, None, sym, refl, ap, ◌∙◌, inl, inr, arith, le-ltb, lt-ltb}
 use mathlib.Core.Bool.{and_assoc}
 use Rattle.std.specs.Bool.{Decides}
 use Rattle.std.specs.Char.{to_ascii_lowercase}
@@ -21,6 +21,11 @@ drop_each f (suc n) (x ∷ xs) = drop_each f n xs
 -- the standard library's small letter is this one
 pub lower_small : (c : ℕ) → to_ascii_lowercase c ≡ small c
 lower_small c = grind (arith, nat_tests)
+
+pub small_at : (bs : List ℕ) (i : ℕ) → i < length bs → get_or (smalls bs) i 0 ≡ small (get_or bs i 0)
+small_at [] i h = absurd (omega arith)
+small_at (c ∷ cs) zero h = refl
+small_at (c ∷ cs) (suc i) h = small_at cs i (omega arith)
 
 smalls_map : (bs : List ℕ) → map to_ascii_lowercase bs ≡ smalls bs
 smalls_map [] = refl

@@ -6,13 +6,14 @@ ghost use Rattle.model.specs.Mail.{line_of, after_line, smalls, field};
 ghost use Rattle.header.specs.Head.{lines_left, values_left, of_field, LineValue};
 
 use crate::text::{equals, without_blanks};
+use memchr::memchr;
 
 // The first line, and what follows it.
 fn first_line(bytes: &[u8]) -> (&[u8], &[u8])
     ensures line { result.0.now ≡ line_of bytes.now }
     ensures rest { result.1.now ≡ after_line bytes.now }
 {
-    match bytes.iter().position(|byte| *byte == b'\n') {
+    match memchr(b'\n', bytes) {
         Some(end) => (&bytes[..end], &bytes[end + 1..]),
         None => (bytes, &[]),
     }

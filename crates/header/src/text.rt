@@ -24,12 +24,12 @@ pub fn without_blanks(text: &[u8]) -> &[u8]
     &text[start.unwrap_or(text.len())..]
 }
 
-// Writes `text` in small letters to the front of `out`.
+// Writes `text` in small letters to the front of `out`, in one pass.
 pub fn copy_lowercase(text: &[u8], out: &mut [u8])
     requires { length text.now ≤ length out.old }
     ensures { out.new ≡ smalls text.now ++ drop (length text.now) out.old }
 {
-    let front = &mut out[..text.len()];
-    front.copy_from_slice(text);
-    front.make_ascii_lowercase();
+    for (i, letter) in out[..text.len()].iter_mut().enumerate() {
+        *letter = text[i].to_ascii_lowercase();
+    }
 }

@@ -56,7 +56,8 @@ impl<'a> Record<'a> {
         self.words[NAME_PLACE] == words[0] && self.name_words() == words.as_slice()
     }
 
-    // Whether it has this name.
+    // Whether it has this name. A call by itself, so that a search passes over records of others by their owner alone.
+    #[inline(never)]
     pub(crate) fn has_name(&self, name: &Wanted<'_>) -> bool
         ensures { result ≡ named self.now.words.now 0 name.now.bytes.now }
     {
